@@ -1,0 +1,1 @@
+// The instructions: their definition stands in specs/.

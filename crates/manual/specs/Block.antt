@@ -1,0 +1,145 @@
+-- The state block: 128 bytes that hold a state, big-endian. Its first byte is the version, 1, and the next four say how many
+-- bytes follow them, 123.
+use Prim.Native.Nat.{ℕ, zero, suc, _+_, _*_, _%_, _^_}
+use mathlib.Core.Bool.{Bool, true, false, cond, _&&_}
+use mathlib.Core.List.{List, [], _∷_}
+use lib.Dec.{eqb, ltb, leb}
+use lib.ListN.{length, getD, replicate}
+use Rattle.manual.specs.declared.Cpu.{Cpu}
+use Rattle.manual.specs.declared.Emac.{Emac}
+use Rattle.manual.specs.declared.Mode.{Mode}
+use Rattle.manual.specs.declared.Reply.{Reply}
+use Rattle.manual.specs.declared.Reply.the-variants.{Done, NotAdmitted, WrongVersion, WrongLength}
+use Rattle.manual.specs.declared.Answer.{Answer}
+use Rattle.manual.specs.Word.{bit}
+use Rattle.manual.specs.Memory.{valueAt, storeAt}
+use Rattle.manual.specs.Emac.{modeOf, accOf, blockNumber, blockInRange}
+use Rattle.manual.specs.Admitted.{status, admitted}
+
+-- the fresh state: all 0, but MASK all ones
+unfoldable pub fresh : Cpu
+fresh =
+    record {
+      r = replicate 16 0;
+      pc = 0;
+      sr = 0;
+      other = 0;
+      vbr = 0;
+      cacr = 0;
+      emac = record { macsr = 0; mask = 0xFFFF_FFFF; acc = replicate 4 0 };
+      stopped = false;
+    }
+
+-- ---- where each part lies: D0 to D7 and A0 to A7 from 5 on, a long each, and the accumulators from 95 on, eight bytes each
+
+abbrev pub pcAt : ℕ
+pcAt = 69
+
+abbrev pub srAt : ℕ
+srAt = 73
+
+abbrev pub otherAt : ℕ
+otherAt = 75
+
+abbrev pub vbrAt : ℕ
+vbrAt = 79
+
+abbrev pub cacrAt : ℕ
+cacrAt = 83
+
+abbrev pub macsrAt : ℕ
+macsrAt = 87
+
+abbrev pub maskAt : ℕ
+maskAt = 91
+
+abbrev pub accAt : ℕ → ℕ
+accAt i = 95 + i * 8
+
+abbrev pub stoppedAt : ℕ
+stoppedAt = 127
+
+-- ---- reading
+
+-- `count` longs from a on
+unfoldable pub longsAt : List ℕ → ℕ → ℕ → List ℕ
+longsAt b zero a = []
+longsAt b (suc count) a = valueAt b a 4 ∷ longsAt b count (a + 4)
+
+abbrev pub accNumber : List ℕ → ℕ → ℕ
+accNumber b i = valueAt b (accAt i) 8
+
+-- the state that the block's bytes say; an accumulator's pattern is the 48 low bits of its number
+unfoldable pub stateAt : List ℕ → Cpu
+stateAt b =
+    record {
+      r = longsAt b 16 5;
+      pc = valueAt b pcAt 4;
+      sr = valueAt b srAt 2;
+      other = valueAt b otherAt 4;
+      vbr = valueAt b vbrAt 4;
+      cacr = valueAt b cacrAt 4;
+      emac = record {
+        macsr = valueAt b macsrAt 4;
+        mask = valueAt b maskAt 4;
+        acc = accNumber b 0 % 2 ^ 48 ∷ accNumber b 1 % 2 ^ 48 ∷ accNumber b 2 % 2 ^ 48 ∷ accNumber b 3 % 2 ^ 48 ∷ [];
+      };
+      stopped = eqb (valueAt b stoppedAt 1) 1;
+    }
+
+-- whether they say an admitted state: each accumulator's number is in the range of the mode, and the last byte is 0 or 1
+unfoldable pub saysAdmitted : List ℕ → Bool
+saysAdmitted b =
+    let k : Mode = modeOf (valueAt b macsrAt 4) in
+    admitted (stateAt b)
+    && (blockInRange k (accNumber b 0)
+    && (blockInRange k (accNumber b 1)
+    && (blockInRange k (accNumber b 2)
+    && (blockInRange k (accNumber b 3) && ltb (valueAt b stoppedAt 1) 2))))
+
+-- a refused read gives the fresh state
+abbrev pub notRead : Reply → Answer
+notRead n = record { reply = n; cpu = fresh }
+
+unfoldable pub readBlock : List ℕ → Answer
+readBlock b =
+    cond (ltb (length b) 5) (notRead WrongLength)
+    (cond (eqb (valueAt b 0 1) 1)
+    (cond (eqb (length b) 128 && eqb (valueAt b 1 4) 123)
+    (cond (saysAdmitted b) (record { reply = Done; cpu = stateAt b }) (notRead NotAdmitted))
+    (notRead WrongLength))
+    (notRead WrongVersion))
+
+-- ---- storing
+
+-- longs one after the other from a on
+unfoldable pub withLongs : List ℕ → ℕ → ℕ → ℕ → List ℕ → List ℕ
+withLongs g i zero a b = b
+withLongs g i (suc left) a b = withLongs g (i + 1) left (a + 4) (storeAt b a 4 (getD g i 0))
+
+abbrev pub withAccs : Cpu → List ℕ → List ℕ
+withAccs s b =
+    let k : Mode = modeOf (s .emac .macsr) in
+    let number : ℕ → ℕ = λ i. blockNumber k (accOf (s .emac) i) in
+    storeAt (storeAt (storeAt (storeAt b (accAt 0) 8 (number 0)) (accAt 1) 8 (number 1)) (accAt 2) 8 (number 2)) (accAt 3) 8 (number 3)
+
+-- the block of a state
+unfoldable pub blockOf : Cpu → List ℕ
+blockOf s =
+    let b0 : List ℕ = storeAt (storeAt (replicate 128 0) 0 1 1) 1 4 123 in
+    let b1 : List ℕ = withLongs (s .r) 0 16 5 b0 in
+    let b2 : List ℕ = storeAt (storeAt b1 pcAt 4 (s .pc)) srAt 2 (s .sr) in
+    let b3 : List ℕ = storeAt (storeAt (storeAt b2 otherAt 4 (s .other)) vbrAt 4 (s .vbr)) cacrAt 4 (s .cacr) in
+    let b4 : List ℕ = storeAt (storeAt b3 macsrAt 4 (s .emac .macsr)) maskAt 4 (s .emac .mask) in
+    storeAt (withAccs s b4) stoppedAt 1 (bit (s .stopped))
+
+-- the reply to a store, and the buffer after it: it needs exactly 128 bytes, whose old contents do not matter
+pub record Stored : Type 0 where
+  pub reply : Reply
+  pub bytes : List ℕ
+
+unfoldable pub storeBlock : Cpu → List ℕ → Stored
+storeBlock s b =
+    cond (eqb (length b) 128)
+    (cond (admitted s) (record { reply = Done; bytes = blockOf s }) (record { reply = NotAdmitted; bytes = b }))
+    (record { reply = WrongLength; bytes = b })

@@ -1,0 +1,26 @@
+-- Quotients and remainders of longs, rounded toward zero; the remainder has the dividend's sign.
+-- The manual: DIVS.L, DIVU.L, REMS.L, REMU.L. The divisor is not 0 here.
+use mathlib.Core.Bool.{Bool, true, false, cond}
+use Prim.Native.Nat.{ℕ, _+_, _*_, _/_, _%_, _^_}
+use lib.IntN.{ℤ}
+use lib.Signed.{quotZ, remZ}
+use Rattle.manual.specs.declared.Size.the-variants.{Long}
+use Rattle.manual.specs.declared.Quotient.{Quotient}
+use Rattle.manual.specs.Word.{signed, fits, modZ}
+use Rattle.manual.specs.Flags.{codes, flagX, flagN}
+
+-- DIVU.L, REMU.L: a over b
+unfoldable pub quotient : ℕ → ℕ → Quotient
+quotient a b = record { fits = true; quotient = a / b; remainder = a % b }
+
+-- DIVS.L, REMS.L: a quotient that is no signed long is an overflow, and there is no result
+unfoldable pub signedQuotient : ℕ → ℕ → Quotient
+signedQuotient a b =
+    let q : ℤ = quotZ (signed Long a) (signed Long b) in
+    cond (fits Long q)
+    (record { fits = true; quotient = modZ q (2 ^ 32); remainder = modZ (remZ (signed Long a) (signed Long b)) (2 ^ 32) })
+    (record { fits = false; quotient = 0; remainder = 0 })
+
+-- ---- 33. An overflow sets V, clears Z and C, and keeps N. The manual: N is cleared
+unfoldable pub overflowCodes : ℕ → ℕ
+overflowCodes sr = codes (flagX sr) (flagN sr) false true false

@@ -1,0 +1,100 @@
+-- Image files and what a run of one prints. An image is version 1, four bytes that say how many follow them, the program
+-- counter, A7, the status register, the budget, and the bytes that go to address 0 of 49,152 zeroed ones.
+use Prim.Native.Nat.{ℕ, zero, suc, _+_, _-_, _*_, _/_, _%_, _^_}
+use mathlib.Core.Bool.{Bool, true, false, cond, _&&_, _||_}
+use mathlib.Core.List.{List, [], _∷_, _++_}
+use lib.Dec.{eqb, ltb, leb}
+use lib.ListN.{length, getD, take, drop, replicate}
+use Rattle.manual.specs.declared.Cpu.{Cpu}
+use Rattle.manual.specs.declared.Reply.{Reply}
+use Rattle.manual.specs.declared.Reply.the-variants.{Done, NotAdmitted, WrongVersion, WrongLength}
+use Rattle.manual.specs.Registers.{withAddress, withPc, withSr}
+use Rattle.manual.specs.Memory.{valueAt}
+use Rattle.manual.specs.Admitted.{admitted}
+use Rattle.manual.specs.Reply.{numberOf}
+use Rattle.manual.specs.Block.{fresh}
+
+-- ---- the file
+
+abbrev pub imageMemory : ℕ
+imageMemory = 49152
+
+-- the reply to a file: 9 under five bytes, 8, 9 where the length is none or does not match, 2
+unfoldable pub imageState : List ℕ → Cpu
+imageState f = withSr (valueAt f 13 2) (withPc (valueAt f 5 4) (withAddress 7 (valueAt f 9 4) fresh))
+
+unfoldable pub imageReply : List ℕ → Reply
+imageReply f =
+    let l : ℕ = valueAt f 1 4 in
+    cond (ltb (length f) 5) WrongLength
+    (cond (eqb (valueAt f 0 1) 1)
+    (cond (leb 14 l && (leb l (imageMemory + 14) && eqb (length f) (5 + l)))
+    (cond (admitted (imageState f)) Done NotAdmitted)
+    WrongLength)
+    WrongVersion)
+
+abbrev pub imageBudget : List ℕ → ℕ
+imageBudget f = valueAt f 15 4
+
+-- the file's bytes at address 0, and zeros up to 49,152
+unfoldable pub imageBytes : List ℕ → List ℕ
+imageBytes f = drop 19 f ++ replicate (imageMemory - (length f - 19)) 0
+
+-- ---- the text, as bytes
+
+-- the character of a digit, 0 to 9 and a to f
+unfoldable pub digit : ℕ → ℕ
+digit d = cond (ltb d 10) (48 + d) (87 + d)
+
+-- the n low digits of v to the base 16
+unfoldable pub hex : ℕ → ℕ → List ℕ
+hex zero v = []
+hex (suc n) v = hex n (v / 16) ++ (digit (v % 16) ∷ [])
+
+-- v to the base 10, of at most n digits, with no zeros before it
+unfoldable pub decimal : ℕ → ℕ → List ℕ
+decimal zero v = []
+decimal (suc n) v = cond (ltb v 10) (digit v ∷ []) (decimal n (v / 10) ++ (digit (v % 10) ∷ []))
+
+abbrev pub space : ℕ
+space = 32
+
+abbrev pub newline : ℕ
+newline = 10
+
+-- `left` longs, a space before each
+unfoldable pub longs : List ℕ → ℕ → ℕ → List ℕ
+longs g i zero = []
+longs g i (suc left) = (space ∷ hex 8 (getD g i 0)) ++ longs g (i + 1) left
+
+-- "answer N"
+unfoldable pub answerLine : Reply → List ℕ
+answerLine n = 97 ∷ 110 ∷ 115 ∷ 119 ∷ 101 ∷ 114 ∷ space ∷ digit (numberOf n) ∷ newline ∷ []
+
+-- "steps N"
+unfoldable pub stepsLine : ℕ → List ℕ
+stepsLine count = (115 ∷ 116 ∷ 101 ∷ 112 ∷ 115 ∷ space ∷ []) ++ (decimal 10 count ++ (newline ∷ []))
+
+-- "pc", "sr", "d" and "a", "other" and "macsr", in hex
+unfoldable pub pcLine : Cpu → List ℕ
+pcLine s = (112 ∷ 99 ∷ space ∷ []) ++ (hex 8 (s .pc) ++ (newline ∷ []))
+
+unfoldable pub srLine : Cpu → List ℕ
+srLine s = (115 ∷ 114 ∷ space ∷ []) ++ (hex 4 (s .sr) ++ (newline ∷ []))
+
+unfoldable pub dataLine : Cpu → List ℕ
+dataLine s = (100 ∷ []) ++ (longs (s .r) 0 8 ++ (newline ∷ []))
+
+unfoldable pub addressLine : Cpu → List ℕ
+addressLine s = (97 ∷ []) ++ (longs (s .r) 8 8 ++ (newline ∷ []))
+
+unfoldable pub otherLine : Cpu → List ℕ
+otherLine s = (111 ∷ 116 ∷ 104 ∷ 101 ∷ 114 ∷ space ∷ []) ++ (hex 8 (s .other) ++ (newline ∷ []))
+
+unfoldable pub macsrLine : Cpu → List ℕ
+macsrLine s = (109 ∷ 97 ∷ 99 ∷ 115 ∷ 114 ∷ space ∷ []) ++ (hex 8 (s .emac .macsr) ++ (newline ∷ []))
+
+-- all that a run of an image prints
+unfoldable pub runText : Reply → ℕ → Cpu → List ℕ
+runText n count s =
+    answerLine n ++ (stepsLine count ++ (pcLine s ++ (srLine s ++ (dataLine s ++ (addressLine s ++ (otherLine s ++ macsrLine s))))))

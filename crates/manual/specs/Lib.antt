@@ -1,0 +1,17 @@
+pub mod Word
+pub mod Registers
+pub mod Differences
+pub mod Flags
+pub mod Conditions
+pub mod Memory
+pub mod Address
+pub mod Reply
+pub mod Change
+pub mod Shift
+pub mod Multiply
+pub mod Divide
+pub mod Emac
+pub mod Admitted
+pub mod Exceptions
+pub mod Block
+pub mod Image

@@ -1,0 +1,72 @@
+-- The registers: a list of 16, D0 to D7 and then A0 to A7, and the state with one of its parts replaced.
+-- The manual: "User Programming Model" and "Supervisor Programming Model".
+use Prim.Native.Nat.{ℕ, _+_, _*_, _/_, _%_}
+use mathlib.Core.Bool.{Bool, true, false, cond}
+use mathlib.Core.List.{List}
+use lib.Dec.{ltb}
+use lib.ListN.{getD, set}
+use Rattle.manual.specs.declared.Cpu.{Cpu}
+use Rattle.manual.specs.declared.Emac.{Emac}
+use Rattle.manual.specs.declared.Write.{Write}
+use Rattle.manual.specs.declared.Change.{Change}
+
+unfoldable pub dataOf : List ℕ → ℕ → ℕ
+dataOf g r = getD g (r % 8) 0
+
+unfoldable pub addressOf : List ℕ → ℕ → ℕ
+addressOf g r = getD g (8 + r % 8) 0
+
+-- Rn, by the four bits that name it
+unfoldable pub general : List ℕ → ℕ → ℕ
+general g n = getD g (n % 16) 0
+
+-- ---- register writes: 0 to 7 are D0 to D7, 8 to 15 are A0 to A7, anything above is none
+
+unfoldable pub noWrite : Write
+noWrite = record { to = 16; value = 0 }
+
+unfoldable pub writeData : ℕ → ℕ → Write
+writeData r v = record { to = r % 8; value = v }
+
+unfoldable pub writeAddress : ℕ → ℕ → Write
+writeAddress r v = record { to = 8 + r % 8; value = v }
+
+unfoldable pub writeGeneral : ℕ → ℕ → Write
+writeGeneral n v = record { to = n % 16; value = v }
+
+unfoldable pub written : Write → List ℕ → List ℕ
+written w g = cond (ltb (w .to) 16) (set g (w .to) (w .value)) g
+
+-- ---- the state with a part replaced
+
+unfoldable pub withParts : List ℕ → ℕ → ℕ → Emac → Cpu → Cpu
+withParts g at sr e s = record { r = g; pc = at; sr = sr; other = s .other; vbr = s .vbr; cacr = s .cacr; emac = e; stopped = s .stopped }
+
+unfoldable pub withRegisters : List ℕ → Cpu → Cpu
+withRegisters g s = record { r = g; pc = s .pc; sr = s .sr; other = s .other; vbr = s .vbr; cacr = s .cacr; emac = s .emac; stopped = s .stopped }
+
+unfoldable pub withAddress : ℕ → ℕ → Cpu → Cpu
+withAddress n v s = record { r = set (s .r) (8 + n % 8) v; pc = s .pc; sr = s .sr; other = s .other; vbr = s .vbr; cacr = s .cacr; emac = s .emac; stopped = s .stopped }
+
+unfoldable pub withPc : ℕ → Cpu → Cpu
+withPc v s = record { r = s .r; pc = v; sr = s .sr; other = s .other; vbr = s .vbr; cacr = s .cacr; emac = s .emac; stopped = s .stopped }
+
+unfoldable pub withSr : ℕ → Cpu → Cpu
+withSr v s = record { r = s .r; pc = s .pc; sr = v; other = s .other; vbr = s .vbr; cacr = s .cacr; emac = s .emac; stopped = s .stopped }
+
+unfoldable pub withOther : ℕ → Cpu → Cpu
+withOther v s = record { r = s .r; pc = s .pc; sr = s .sr; other = v; vbr = s .vbr; cacr = s .cacr; emac = s .emac; stopped = s .stopped }
+
+unfoldable pub withEmac : Emac → Cpu → Cpu
+withEmac e s = record { r = s .r; pc = s .pc; sr = s .sr; other = s .other; vbr = s .vbr; cacr = s .cacr; emac = e; stopped = s .stopped }
+
+unfoldable pub withStopped : Bool → Cpu → Cpu
+withStopped b s = record { r = s .r; pc = s .pc; sr = s .sr; other = s .other; vbr = s .vbr; cacr = s .cacr; emac = s .emac; stopped = b }
+
+-- the status register with other condition codes
+unfoldable pub coded : ℕ → ℕ → ℕ
+coded sr c = sr / 32 * 32 + c % 32
+
+-- the state after an instruction's own changes: the first write, then the second, the program counter and the five condition codes
+unfoldable pub applied : Cpu → Change → Cpu
+applied s c = withParts (written (c .second) (written (c .first) (s .r))) (c .pc) (coded (s .sr) (c .ccr)) (s .emac) s
