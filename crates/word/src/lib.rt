@@ -1,1 +1,2 @@
 pub mod registers;
+pub mod word;
