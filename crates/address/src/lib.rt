@@ -1,2 +1,1 @@
-pub mod changes;
 pub mod operands;
