@@ -1,4 +1,11 @@
 // Operands: their extension words, where they are and what stands there.
+use manual::Got;
+use manual::Operand;
+use manual::Place;
+use manual::Reached;
+use manual::Size;
+use manual::Source;
+use manual::Write;
 use memory::load;
 use word::registers::address;
 use word::registers::data;
@@ -10,13 +17,6 @@ use word::word::cut;
 use word::word::minus;
 use word::word::plus;
 use word::word::sign_extended;
-use manual::Got;
-use manual::Operand;
-use manual::Place;
-use manual::Reached;
-use manual::Size;
-use manual::Source;
-use manual::Write;
 ghost use mathlib.Core.Path.{_≡_};
 ghost use Prim.Native.Nat.{_+_, _-_, _*_, _/_, _%_, _^_, _≤_, _<_};
 ghost use Rattle.manual.specs.Address.{operand as operandOf, extension as extensionOf, index as indexOf, indexed as indexedOf, immediate as immediateOf, locate as locateOf, moved as movedOf, fetch as fetchOf, value as valueOf, reached as reachedOf, control as controlOf, source as sourceOf};
