@@ -1,0 +1,111 @@
+// Line 5: ADDQ, SUBQ, Scc and TPF.
+use super::line9d::more_or_less;
+use super::line9d::to_place;
+use address::changes::done;
+use address::changes::illegal;
+use address::changes::jump;
+use manual::Change;
+use manual::Size;
+use word::conditions::condition;
+use word::flags::kept_codes;
+use word::flags::sum_codes;
+use word::flags::sum_or_difference;
+use word::registers::address;
+use word::registers::data;
+use word::registers::no_write;
+use word::registers::write_address;
+use word::registers::write_data;
+use word::word::merged;
+use word::word::plus;
+use word::word::size_of;
+ghost use mathlib.Core.Path.{_≡_};
+ghost use Prim.Native.Nat.{_+_, _*_, _/_, _%_, _<_};
+ghost use Rattle.instructions.specs.Line5.{quickNumber, quickAdds, quickAddress, quickData, quick as quickOf, setByCondition, skip as skipOf, line5 as line5Of};
+ghost use Rattle.manual.specs.Differences.{anySize};
+
+pub fn quick_number(op: u32) -> u32
+    ensures { λ r. ⌜ r ≡ quickNumber op ⌝ }
+{
+    let n = op / 512 % 8;
+    if n == 0 { 8 } else { n }
+}
+
+fn quick_address(g: &[u32; 16], at: u32, sr: u16, op: u32) -> Change
+    ensures { λ e. ⌜ e ≡ quickAddress (now (g .entry)) at sr op ⌝ }
+{
+    let next = plus(at, 2);
+    let codes = kept_codes(sr);
+    let none = no_write();
+    let r = more_or_less(op / 256 % 2 == 0, address(g, op), quick_number(op));
+    done(next, codes, none, write_address(op, r))
+}
+
+fn quick_data(g: &[u32; 16], at: u32, op: u32) -> Change
+    ensures { λ e. ⌜ e ≡ quickData (now (g .entry)) at op ⌝ }
+{
+    let z = size_of(op / 64);
+    let old = data(g, op);
+    let r = sum_or_difference(op / 256 % 2 == 0, z, quick_number(op), old, false);
+    let next = plus(at, 2);
+    let codes = sum_codes(r);
+    let none = no_write();
+    done(next, codes, none, write_data(op, merged(z, old, r.value)))
+}
+
+fn quick(g: &[u32; 16], at: u32, mem: &[u8], op: u32) -> Change
+    ensures { λ e. ⌜ e ≡ quickOf (now (g .entry)) at (now (mem .entry)) op ⌝ }
+{
+    if op / 8 % 8 == 0 {
+        quick_data(g, at, op)
+    } else {
+        let z = size_of(op / 64);
+        to_place(op / 256 % 2 == 0, z, g, at, mem, op, quick_number(op))
+    }
+}
+
+fn scc(g: &[u32; 16], at: u32, sr: u16, op: u32) -> Change
+    ensures { λ e. ⌜ e ≡ setByCondition (now (g .entry)) at sr op ⌝ }
+{
+    let next = plus(at, 2);
+    let codes = kept_codes(sr);
+    let none = no_write();
+    let old = data(g, op);
+    if condition(op / 256, sr) {
+        done(
+            next,
+            codes,
+            none,
+            write_data(op, merged(Size::Byte, old, 0xFF)),
+        )
+    } else {
+        done(
+            next,
+            codes,
+            none,
+            write_data(op, merged(Size::Byte, old, 0)),
+        )
+    }
+}
+
+fn skip(n: u32, at: u32, sr: u16) -> Change
+    requires { ⌜ n < 8 ⌝ }
+    ensures { λ e. ⌜ e ≡ skipOf n at sr ⌝ }
+{
+    jump(sr, plus(at, 2 + n))
+}
+
+pub fn line5(row: u8, g: &[u32; 16], at: u32, sr: u16, mem: &[u8], op: u32) -> Change
+    ensures { λ e. ⌜ e ≡ line5Of row (now (g .entry)) at sr (now (mem .entry)) op ⌝ }
+{
+    match row {
+        rows::TPF_W => skip(2, at, sr),
+        rows::TPF_L => skip(4, at, sr),
+        rows::TPF => skip(0, at, sr),
+        rows::ADDQ_AN_B => quick_address(g, at, sr, op),
+        rows::ADDQ_AN_W => quick_address(g, at, sr, op),
+        rows::ADDQ_AN_L => quick_address(g, at, sr, op),
+        rows::SCC => scc(g, at, sr, op),
+        rows::ILL_50C0 => illegal(at, sr),
+        _ => quick(g, at, mem, op),
+    }
+}

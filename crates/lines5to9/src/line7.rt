@@ -1,0 +1,68 @@
+// Line 7: MOVEQ, MVS and MVZ.
+use address::changes::done;
+use address::changes::refused;
+use address::operands::source;
+use manual::Change;
+use manual::Fault;
+use manual::Got;
+use manual::Size;
+use word::flags::move_codes;
+use word::registers::no_write;
+use word::registers::write_data;
+use word::word::plus;
+use word::word::sign_extended;
+use word::word::size_of;
+ghost use mathlib.Core.Path.{_≡_};
+ghost use Prim.Native.Nat.{_+_, _*_, _/_, _%_};
+ghost use Rattle.instructions.specs.Line7.{moveQuick, moveSigned, moveZero, line7 as line7Of};
+
+fn moveq(at: u32, sr: u16, op: u32) -> Change
+    ensures { λ e. ⌜ e ≡ moveQuick at sr op ⌝ }
+{
+    let v = sign_extended(Size::Byte, op);
+    let next = plus(at, 2);
+    let codes = move_codes(Size::Long, v, sr);
+    done(next, codes, no_write(), write_data(op / 512, v))
+}
+
+fn mvs(g: &[u32; 16], at: u32, sr: u16, mem: &[u8], op: u32) -> Change
+    ensures { λ e. ⌜ e ≡ moveSigned (now (g .entry)) at sr (now (mem .entry)) op ⌝ }
+{
+    let z = size_of(op / 64 % 2);
+    let from = source(g, mem, plus(at, 2), op, z);
+    let got = from.got;
+    let v = match got {
+        Got::Value(v) => v,
+        Got::Fault(x) => return refused(x),
+    };
+    let next = from.next;
+    let first = from.moved;
+    let whole = sign_extended(z, v);
+    let codes = move_codes(Size::Long, whole, sr);
+    done(next, codes, first, write_data(op / 512, whole))
+}
+
+fn mvz(g: &[u32; 16], at: u32, sr: u16, mem: &[u8], op: u32) -> Change
+    ensures { λ e. ⌜ e ≡ moveZero (now (g .entry)) at sr (now (mem .entry)) op ⌝ }
+{
+    let from = source(g, mem, plus(at, 2), op, size_of(op / 64 % 2));
+    let got = from.got;
+    let v = match got {
+        Got::Value(v) => v,
+        Got::Fault(x) => return refused(x),
+    };
+    let next = from.next;
+    let first = from.moved;
+    let codes = move_codes(Size::Long, v, sr);
+    done(next, codes, first, write_data(op / 512, v))
+}
+
+pub fn line7(row: u8, g: &[u32; 16], at: u32, sr: u16, mem: &[u8], op: u32) -> Change
+    ensures { λ e. ⌜ e ≡ line7Of row (now (g .entry)) at sr (now (mem .entry)) op ⌝ }
+{
+    match row {
+        rows::MVS => mvs(g, at, sr, mem, op),
+        rows::MVZ => mvz(g, at, sr, mem, op),
+        _ => moveq(at, sr, op),
+    }
+}
