@@ -1,0 +1,111 @@
+// Lines 1, 2 and 3: MOVE and MOVEA.
+use address::changes::done;
+use address::changes::put;
+use address::changes::refused;
+use address::operands::extension;
+use address::operands::locate;
+use address::operands::moved;
+use address::operands::operand;
+use address::operands::source;
+use manual::Change;
+use manual::Fault;
+use manual::Got;
+use manual::Operand;
+use manual::Size;
+use manual::Write;
+use word::flags::kept_codes;
+use word::flags::move_codes;
+use word::registers::data;
+use word::registers::write_address;
+use word::registers::write_data;
+use word::registers::written;
+use word::word::merged;
+use word::word::plus;
+use word::word::sign_extended;
+ghost use mathlib.Core.Path.{_≡_};
+ghost use Prim.Native.Nat.{_+_, _*_, _/_, _%_, _<_};
+ghost use Rattle.instructions.specs.Moves.{moveTo, move as moveOf, moveAddress, line1 as line1Of, line2 as line2Of, line3 as line3Of};
+
+fn move_to(
+    z: Size,
+    g: &[u32; 16],
+    sr: u16,
+    mem: &[u8],
+    pc: u32,
+    first: Write,
+    o: Operand,
+    v: u32,
+) -> Change
+    ensures { λ e. ⌜ e ≡ moveTo z (now (g .entry)) sr (now (mem .entry)) pc first o v ⌝ }
+{
+    let place = locate(g, mem, pc, o, z);
+    let codes = move_codes(z, v, sr);
+    let next = plus(pc, extension(o, z));
+    put(g, next, codes, first, moved(g, o, z), place, z, v)
+}
+
+pub fn op_move(z: Size, g: &[u32; 16], at: u32, sr: u16, mem: &[u8], op: u32) -> Change
+    ensures { λ e. ⌜ e ≡ moveOf z (now (g .entry)) at sr (now (mem .entry)) op ⌝ }
+{
+    let from = source(g, mem, plus(at, 2), op, z);
+    let got = from.got;
+    let v = match got {
+        Got::Value(v) => v,
+        Got::Fault(x) => return refused(x),
+    };
+    let next = from.next;
+    let first = from.moved;
+    let mode = op / 64 % 8;
+    if mode == 0 {
+        let old = data(g, op / 512);
+        let codes = move_codes(z, v, sr);
+        done(next, codes, first, write_data(op / 512, merged(z, old, v)))
+    } else {
+        let after = written(g, first);
+        let target = operand(mode, op / 512 % 8);
+        move_to(z, &after, sr, mem, next, first, target, v)
+    }
+}
+
+pub fn op_movea(z: Size, g: &[u32; 16], at: u32, sr: u16, mem: &[u8], op: u32) -> Change
+    ensures { λ e. ⌜ e ≡ moveAddress z (now (g .entry)) at sr (now (mem .entry)) op ⌝ }
+{
+    let from = source(g, mem, plus(at, 2), op, z);
+    let got = from.got;
+    let v = match got {
+        Got::Value(v) => v,
+        Got::Fault(x) => return refused(x),
+    };
+    let next = from.next;
+    let first = from.moved;
+    let codes = kept_codes(sr);
+    let whole = write_address(op / 512, sign_extended(z, v));
+    done(next, codes, first, whole)
+}
+
+pub fn line1(row: u8, g: &[u32; 16], at: u32, sr: u16, mem: &[u8], op: u32) -> Change
+    ensures { λ e. ⌜ e ≡ line1Of row (now (g .entry)) at sr (now (mem .entry)) op ⌝ }
+{
+    match row {
+        rows::MOVEA_B => op_movea(Size::Byte, g, at, sr, mem, op),
+        _ => op_move(Size::Byte, g, at, sr, mem, op),
+    }
+}
+
+pub fn line2(row: u8, g: &[u32; 16], at: u32, sr: u16, mem: &[u8], op: u32) -> Change
+    ensures { λ e. ⌜ e ≡ line2Of row (now (g .entry)) at sr (now (mem .entry)) op ⌝ }
+{
+    match row {
+        rows::MOVEA_L => op_movea(Size::Long, g, at, sr, mem, op),
+        _ => op_move(Size::Long, g, at, sr, mem, op),
+    }
+}
+
+pub fn line3(row: u8, g: &[u32; 16], at: u32, sr: u16, mem: &[u8], op: u32) -> Change
+    ensures { λ e. ⌜ e ≡ line3Of row (now (g .entry)) at sr (now (mem .entry)) op ⌝ }
+{
+    match row {
+        rows::MOVEA_W => op_movea(Size::Word, g, at, sr, mem, op),
+        _ => op_move(Size::Word, g, at, sr, mem, op),
+    }
+}
