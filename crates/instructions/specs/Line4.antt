@@ -150,23 +150,21 @@ toCcr g at m op =
 -- ---- MOVEM: a word that names the registers, D0 in bit 0, and then the address in modes 2 and 5
 -- 15. Any other mode fetches the word first. The manual: illegal
 
-unfoldable pub moveMany : (ℕ → ℕ → Action) → List ℕ → ℕ → ℕ → List ℕ → ℕ → Change
-moveMany act g at sr m op =
+-- the registers go to memory, or come from it
+unfoldable pub many : Bool → ℕ → ℕ → Action
+many toMemory mask a = cond toMemory (StoreMany mask a) (LoadMany mask a)
+
+unfoldable pub moveMany : Bool → List ℕ → ℕ → ℕ → List ℕ → ℕ → Change
+moveMany toMemory g at sr m op =
     let pc : ℕ = plus at 2 in
     let a : ℕ = addressOf g op in
     reading (load m pc Word) λ mask.
     cond (eqb (op / 8 % 8) 2)
-    (acting sr (plus pc 2) noWrite (act mask a))
+    (acting sr (plus pc 2) noWrite (many toMemory mask a))
     (cond (eqb (op / 8 % 8) 5)
     (reading (load m (plus pc 2) Word) λ d.
-    acting sr (plus pc 4) noWrite (act mask (plus a (signExtended Word d))))
+    acting sr (plus pc 4) noWrite (many toMemory mask (plus a (signExtended Word d))))
     (illegal at sr))
-
-abbrev pub storeMany : List ℕ → ℕ → ℕ → List ℕ → ℕ → Change
-storeMany = moveMany (λ mask a. StoreMany mask a)
-
-abbrev pub loadMany : List ℕ → ℕ → ℕ → List ℕ → ℕ → Change
-loadMany = moveMany (λ mask a. LoadMany mask a)
 
 -- ---- one data register
 
@@ -310,8 +308,8 @@ line4 row g at sr other m op =
     toCcr g at m op ∷
     toSr g at sr m op ∷
     pea g at sr m op ∷
-    storeMany g at sr m op ∷
-    loadMany g at sr m op ∷
+    moveMany true g at sr m op ∷
+    moveMany false g at sr m op ∷
     multiply g at sr m op ∷
     divide g at sr m op ∷
     testAndSet g at sr m op ∷

@@ -14,6 +14,8 @@ use Rattle.manual.specs.declared.Sum.{Sum}
 use Rattle.manual.specs.declared.Change.{Change}
 use lib.Bits.{bitAnd}
 use Rattle.manual.specs.declared.Emac.{Emac}
+use Rattle.manual.specs.declared.EmacPart.{EmacPart}
+use Rattle.manual.specs.declared.EmacPart.the-variants.{Acc, Ext, Macsr, Mask}
 use Rattle.manual.specs.declared.Action.{Action}
 use Rattle.manual.specs.declared.Action.the-variants.{Nothing, Accumulate, SetAcc, SetExt, SetMacsr, SetMask, CopyAcc, ClearAcc}
 use Rattle.manual.specs.Word.{plus, minus, signExtended}
@@ -46,13 +48,23 @@ fromAcc at sr e op =
     let v : ℕ = readAcc (modeOf (e .macsr)) (accOf e (numbered op)) in
     acting sr (plus at 2) (writeGeneral op v) (cond (eqb (op / 64 % 2) 1) (ClearAcc (numbered op)) Nothing)
 
+-- MOVE ACCy,ACCx
+unfoldable pub copy : ℕ → ℕ → ℕ → Change
+copy at sr op = acting sr (plus at 2) noWrite (CopyAcc (op % 4) (numbered op))
+
 -- MOVE to ACCx, ACCext, MACSR and MASK
+unfoldable pub setting : EmacPart → ℕ → ℕ → Action
+setting Acc op v = SetAcc (numbered op) v
+setting Ext op v = SetExt (pair op) v
+setting Macsr op v = SetMacsr v
+setting Mask op v = SetMask v
+
 -- 40. From every mode. The manual: from a register or an immediate
-unfoldable pub toEmac : (ℕ → Action) → List ℕ → ℕ → ℕ → List ℕ → ℕ → Change
-toEmac act g at sr m op =
+unfoldable pub toEmac : EmacPart → List ℕ → ℕ → ℕ → List ℕ → ℕ → Change
+toEmac part g at sr m op =
     let from : Source = source g m (plus at 2) op Long in
     reading (from .got) λ v.
-    acting sr (from .next) (from .moved) (act v)
+    acting sr (from .next) (from .moved) (setting part op v)
 
 -- MOV3Q: 1 to 7, or -1 for 0
 unfoldable pub threeBits : ℕ → ℕ
@@ -135,15 +147,15 @@ unfoldable pub lineA : ℕ → List ℕ → ℕ → ℕ → Emac → List ℕ �
 lineA row g at sr e m op =
     getD
     (macsrToCcr at (e .macsr) ∷
-    acting sr (plus at 2) noWrite (CopyAcc (op % 4) (numbered op)) ∷
+    copy at sr op ∷
     toGeneral at sr op (e .macsr) ∷
     toGeneral at sr op (e .mask) ∷
     toGeneral at sr op (readExt (has (e .macsr) 5) e (pair op)) ∷
-    toEmac (λ v. SetMacsr v) g at sr m op ∷
-    toEmac (λ v. SetMask v) g at sr m op ∷
+    toEmac Macsr g at sr m op ∷
+    toEmac Mask g at sr m op ∷
     fromAcc at sr e op ∷
-    toEmac (λ v. SetExt (pair op) v) g at sr m op ∷
-    toEmac (λ v. SetAcc (numbered op) v) g at sr m op ∷
+    toEmac Ext g at sr m op ∷
+    toEmac Acc g at sr m op ∷
     moveThree g at sr m op ∷
     mac g at sr (e .mask) m op ∷
     [])

@@ -119,7 +119,10 @@ flagged k macsr i over a =
     withPav (macsr / 16 * 16) i over
     + (bit (extensionInUse k a) + bit over * 2 + bit (eqb a 0) * 4 + bit (leb (2 ^ 47) a) * 8)
 
--- ---- accumulators by number, modulo 4
+-- ---- the unit of its parts, and accumulators by number, modulo 4
+
+abbrev pub emacOf : ℕ → ℕ → List ℕ → Emac
+emacOf macsr mask acc = record { macsr = macsr; mask = mask; acc = acc }
 
 unfoldable pub accOf : Emac → ℕ → ℕ
 accOf e i = getD (e .acc) (i % 4) 0
@@ -221,7 +224,7 @@ withExt fi i ext e = withAcc i (e .macsr) (patternOf fi (accPart fi (accOf e i))
 unfoldable pub setExt : Emac → ℕ → ℕ → Emac
 setExt e i v =
     let fi : Bool = has (e .macsr) 5 in
-    withExt fi (i + 1) (v % 2 ^ 16) (withExt fi i (v / 2 ^ 16) e)
+    withExt fi (i + 1) (v % 2 ^ 16) (withExt fi i (v / 2 ^ 16 % 2 ^ 16) e)
 
 -- ---- MASK: the upper half is ones
 

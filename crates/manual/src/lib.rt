@@ -119,6 +119,14 @@ pub struct Mode {
     pub omc: bool,
 }
 
+// What of the EMAC a move writes.
+pub enum EmacPart {
+    Acc,
+    Ext,
+    Macsr,
+    Mask,
+}
+
 // The interrupt mask that an exception sets, if any.
 pub enum Level {
     Kept,
