@@ -134,6 +134,10 @@ in-line w r h l f =
       ),
     )
 
+-- so the row that a word takes is one of its line's
+pub rowOf-in-line : (w : ℕ) → w < 0x1_0000 → (firstOf (w / 0x1000) ≤ rowOf w) × (rowOf w < firstOf (w / 0x1000 + 1))
+rowOf-in-line w h = in-line w (rowOf w) h (rowOf-lt w) (rowOf-fits w h) .1
+
 -- the row of the word w is one of those from n on and below e: what a decoder knows once it has ruled out the others
 pub record Within (n e w : ℕ) : Type 0 where
   pub word : w < 0x1_0000
