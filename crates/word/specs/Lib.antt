@@ -1,0 +1,5 @@
+pub mod TestLaws
+pub mod RegisterLaws
+pub mod SignedLaws
+pub mod WordLaws
+pub mod RaisedLaws

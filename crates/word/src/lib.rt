@@ -1,0 +1,4 @@
+pub mod conditions;
+pub mod flags;
+pub mod registers;
+pub mod word;
