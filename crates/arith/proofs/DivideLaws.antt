@@ -1,10 +1,10 @@
 -- A signed quotient by the magnitudes, for each pair of signs: what each return of `signed_quotient` asks. Assumes nothing.
 use mathlib.Core.Path.{_≡_, refl, sym, ap, _∙_}
-use mathlib.Core.Bool.{Bool, true, false}
+use mathlib.Core.Bool.{true, false}
 use Prim.Native.Nat.{ℕ, zero, suc, _+_, _-_, _/_, _%_, _^_, _≤_, _<_}
 use native.Mathlib.Nat.{div-le-self, mod-le, mod-eq-of-lt}
 use native.Mathlib.Omega.{arith}
-use lib.IntN.{ℤ, pos, negsuc, negℤ, natAbs}
+use lib.IntN.{ℤ, pos, negℤ, natAbs}
 use lib.Signed.{quotZ, remZ}
 use borrow.Author.Tests.{lt-ltb, le-ltb}
 use Rattle.manual.specs.declared.Size.the-variants.{Long}

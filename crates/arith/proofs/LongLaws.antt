@@ -1,6 +1,6 @@
 -- The number that a long stands for, by its sign bit, and the long of a number that is negated. Assumes nothing.
 use mathlib.Core.Path.{_≡_, refl, ap, _∙_}
-use Prim.Native.Nat.{ℕ, zero, suc, _+_, _-_, _%_, _^_, _≤_, _<_}
+use Prim.Native.Nat.{ℕ, zero, suc, _-_, _%_, _^_, _≤_, _<_}
 use native.Mathlib.Omega.{arith}
 use lib.IntN.{pos, negsuc, negℤ}
 use Rattle.manual.specs.declared.Size.the-variants.{Long}

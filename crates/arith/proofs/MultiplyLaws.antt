@@ -1,9 +1,9 @@
 -- The low half of a product is the same for signed and unsigned numbers; a word's number is that of its extension. Assumes nothing.
-use mathlib.Core.Path.{_≡_, refl, sym, ap, ap₂, _∙_, subst⁻¹}
-use Prim.Native.Nat.{ℕ, suc, _+_, _-_, _*_, _%_, _^_, _≤_, _<_}
+use mathlib.Core.Path.{_≡_, sym, ap, ap₂, _∙_, subst⁻¹}
+use Prim.Native.Nat.{ℕ, _+_, _-_, _*_, _%_, _^_, _<_}
 use native.Mathlib.Nat.{mul-add, add-mul, le-of-lt, lt-of-le-of-lt, mul-le-mul-left, mul-lt-mul-of-pos-right}
 use native.Mathlib.Omega.{arith}
-use lib.IntN.{ℤ, pos, negsuc, _*ℤ_}
+use lib.IntN.{ℤ, negsuc, _*ℤ_}
 use lib.Pow.{pow-pos, pow-add}
 use Rattle.manual.specs.declared.Size.the-variants.{Word, Long}
 use Rattle.manual.specs.Word.{cut, signed, modZ, signExtended}
