@@ -1,18 +1,17 @@
 -- The row that a word takes: there is one, and one only, and `rowOf` is it; and it is a row of the word's line.
 -- Assumes nothing.
-use mathlib.Core.Path.{_≡_, refl, sym, ap, _∙_, subst}
+use mathlib.Core.Path.{_≡_, sym, ap, _∙_, subst}
 use mathlib.Core.Bool.{Bool, true, false}
 use mathlib.Core.List.{List, [], _∷_}
-use Prim.Native.Nat.{ℕ, zero, suc, _+_, _-_, _*_, _/_, _%_, _≤_, _<_}
+use Prim.Native.Nat.{ℕ, _+_, _*_, _/_, _%_, _≤_, _<_}
 use native.Mathlib.Omega.{arith}
 use native.Mathlib.Nat.{le-refl, le-of-lt, le-of-eq, not-le-of-lt, mod-eq-of-lt, mod-mod, mod-lt, zero-lt-suc}
 use native.Mathlib.Decide.{decLt}
-use borrow.Author.Tests.{eqb-false}
 use lib.Bits.{bitAnd, and-shr, and-mask}
 use lib.Dec.{T, eqb, ltb, leb, eqb→eq, ltb→lt, leb→le}
-use lib.ListN.{length, getD, drop}
+use lib.ListN.{getD, drop}
 use Rattle.instructions.specs.Rows.{values, masks, value, mask, fixedBits, rowCount, Fits, IsRow, firstFit, rowOf}
-use Rattle.rows.specs.TableLaws.{agree, allBelow, keep, below, allApart, nested, found, unfit, someWhole, some-later, some-fits}
+use Rattle.rows.specs.TableLaws.{allBelow, keep, below, allApart, nested, found, unfit, someWhole, some-later, some-fits}
 
 -- the first row of each line, the four top bits of a word; past the last line, past the last row
 abbrev firstRows : List ℕ
@@ -133,6 +132,10 @@ in-line w r h l f =
         subst (λ (x : ℕ). r < firstOf (x + 1)) e (ltb→lt r (firstOf (v + 1)) (b .1)),
       ),
     )
+
+-- so the row that a word takes is one of its line's
+pub rowOf-in-line : (w : ℕ) → w < 0x1_0000 → (firstOf (w / 0x1000) ≤ rowOf w) × (rowOf w < firstOf (w / 0x1000 + 1))
+rowOf-in-line w h = in-line w (rowOf w) h (rowOf-lt w) (rowOf-fits w h) .1
 
 -- the row of the word w is one of those from n on and below e: what a decoder knows once it has ruled out the others
 pub record Within (n e w : ℕ) : Type 0 where

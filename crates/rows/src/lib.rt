@@ -252,6 +252,8 @@ pub const WDDATA: u8 = 122;
 
 pub const LINEF: u8 = 123;
 
+// A line's function is given a word of that line. One that is named for fixed bits too, as `line_4_fff8`, is given a word that none of the
+// line's rows before those takes.
 fn line_0(w: u32) -> u8
     requires { ⌜ Within 0 14 w ⌝ }
     ensures { λ r. ⌜ r ≡ rowOf w ⌝ }
@@ -326,7 +328,7 @@ fn line_4(w: u32) -> u8
         }
         return LEA;
     }
-    match w {
+    match w & 0xFFFF {
         0x4E71 => NOP,
         0x4E72 => STOP,
         0x4E73 => RTE,
@@ -510,7 +512,7 @@ fn line_a(w: u32) -> u8
     if w & 0xF100 == 0xA000 {
         return MAC;
     }
-    if w == 0xA9C0 {
+    if w & 0xFFFF == 0xA9C0 {
         return MACSR_CCR;
     }
     if w & 0xF9FC == 0xA110 {

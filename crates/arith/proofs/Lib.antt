@@ -1,0 +1,4 @@
+pub mod LongLaws
+pub mod ShiftLaws
+pub mod MultiplyLaws
+pub mod DivideLaws
