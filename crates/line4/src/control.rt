@@ -26,7 +26,7 @@ use word::word::plus;
 use word::word::sign_extended;
 ghost use mathlib.Core.Path.{_≡_};
 ghost use Prim.Native.Nat.{_+_, _*_, _/_, _%_, _<_};
-ghost use Rattle.instructions.specs.Line4.{nothing, lea as leaOf, pea as peaOf, jsr as jsrOf, jmp as jmpOf, rts as rtsOf, trap as trapOf, link as linkOf, unlk as unlkOf, storeMany, loadMany};
+ghost use Rattle.instructions.specs.Line4.{nothing, lea as leaOf, pea as peaOf, jsr as jsrOf, jmp as jmpOf, rts as rtsOf, trap as trapOf, link as linkOf, unlk as unlkOf, many as manyOf, moveMany};
 
 pub fn nop(at: u32, sr: u16) -> Change
     ensures { λ e. ⌜ e ≡ nothing at sr ⌝ }
@@ -147,32 +147,18 @@ pub fn unlk(g: &[u32; 16], at: u32, sr: u16, mem: &[u8], op: u32) -> Change
     done(next, codes, top, write_address(op, v))
 }
 
-pub fn movem_store(g: &[u32; 16], at: u32, sr: u16, mem: &[u8], op: u32) -> Change
-    ensures { λ e. ⌜ e ≡ storeMany (now (g .entry)) at sr (now (mem .entry)) op ⌝ }
+fn many(to_memory: bool, mask: u32, a: u32) -> Action
+    ensures { λ r. ⌜ r ≡ manyOf to_memory mask a ⌝ }
 {
-    let pc = plus(at, 2);
-    let a = address(g, op);
-    let mask = match load(mem, pc, Size::Word) {
-        Got::Value(mask) => mask,
-        Got::Fault(x) => return refused(x),
-    };
-    let none = no_write();
-    if op / 8 % 8 == 2 {
-        acting(sr, plus(pc, 2), none, Action::StoreMany(mask, a))
-    } else if op / 8 % 8 == 5 {
-        let d = match load(mem, plus(pc, 2), Size::Word) {
-            Got::Value(d) => d,
-            Got::Fault(x) => return refused(x),
-        };
-        let from = plus(a, sign_extended(Size::Word, d));
-        acting(sr, plus(pc, 4), none, Action::StoreMany(mask, from))
+    if to_memory {
+        Action::StoreMany(mask, a)
     } else {
-        illegal(at, sr)
+        Action::LoadMany(mask, a)
     }
 }
 
-pub fn movem_load(g: &[u32; 16], at: u32, sr: u16, mem: &[u8], op: u32) -> Change
-    ensures { λ e. ⌜ e ≡ loadMany (now (g .entry)) at sr (now (mem .entry)) op ⌝ }
+pub fn movem(to_memory: bool, g: &[u32; 16], at: u32, sr: u16, mem: &[u8], op: u32) -> Change
+    ensures { λ e. ⌜ e ≡ moveMany to_memory (now (g .entry)) at sr (now (mem .entry)) op ⌝ }
 {
     let pc = plus(at, 2);
     let a = address(g, op);
@@ -182,14 +168,14 @@ pub fn movem_load(g: &[u32; 16], at: u32, sr: u16, mem: &[u8], op: u32) -> Chang
     };
     let none = no_write();
     if op / 8 % 8 == 2 {
-        acting(sr, plus(pc, 2), none, Action::LoadMany(mask, a))
+        acting(sr, plus(pc, 2), none, many(to_memory, mask, a))
     } else if op / 8 % 8 == 5 {
         let d = match load(mem, plus(pc, 2), Size::Word) {
             Got::Value(d) => d,
             Got::Fault(x) => return refused(x),
         };
         let from = plus(a, sign_extended(Size::Word, d));
-        acting(sr, plus(pc, 4), none, Action::LoadMany(mask, from))
+        acting(sr, plus(pc, 4), none, many(to_memory, mask, from))
     } else {
         illegal(at, sr)
     }

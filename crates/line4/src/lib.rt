@@ -1,2 +1,4 @@
 pub mod control;
+pub mod rows4;
+pub mod single;
 pub mod status;
