@@ -231,7 +231,7 @@ pub fn mul_l(g: &[u32; 16], at: u32, sr: u16, mem: &[u8], op: u32) -> Change
 }
 
 fn divided(w: u32, d: u32, v: u32) -> Quotient
-    requires { ⌜ (v ≡ 0 → ⊥) ⌝ }
+    requires { ⌜ 0 < v ⌝ }
     ensures { λ q. ⌜ q ≡ dividedOf w d v ⌝ }
 {
     if w / 0x800 % 2 == 1 {

@@ -1,1 +1,2 @@
+pub mod line0;
 pub mod moves;

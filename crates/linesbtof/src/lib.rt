@@ -1,0 +1,4 @@
+pub mod lineb;
+pub mod linec;
+pub mod linee;
+pub mod linef;

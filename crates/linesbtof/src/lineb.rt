@@ -1,0 +1,92 @@
+// Line B: CMP, CMPA and EOR.
+use address::changes::done;
+use address::changes::put;
+use address::changes::refused;
+use address::operands::extension;
+use address::operands::fetch;
+use address::operands::locate;
+use address::operands::moved;
+use address::operands::operand;
+use address::operands::source;
+use manual::Change;
+use manual::Fault;
+use manual::Got;
+use manual::Logic;
+use manual::Size;
+use word::bits::logic;
+use word::flags::compare_codes;
+use word::flags::move_codes;
+use word::flags::subtracted;
+use word::registers::address_after;
+use word::registers::data;
+use word::registers::no_write;
+use word::word::plus;
+use word::word::sign_extended;
+use word::word::size_of;
+ghost use mathlib.Core.Path.{_≡_};
+ghost use Prim.Native.Nat.{_+_, _*_, _/_, _%_, _<_};
+ghost use Rattle.instructions.specs.LineB.{compareData, compareAddress, logicToPlace, lineB as lineBOf};
+ghost use Rattle.manual.specs.Differences.{anySize};
+
+fn cmp(g: &[u32; 16], at: u32, sr: u16, mem: &[u8], op: u32) -> Change
+    ensures { λ e. ⌜ e ≡ compareData (now (g .entry)) at sr (now (mem .entry)) op ⌝ }
+{
+    let z = size_of(op / 64);
+    let from = source(g, mem, plus(at, 2), op, z);
+    let got = from.got;
+    let v = match got {
+        Got::Value(v) => v,
+        Got::Fault(x) => return refused(x),
+    };
+    let next = from.next;
+    let first = from.moved;
+    let r = subtracted(z, v, data(g, op / 512), false);
+    let codes = compare_codes(sr, r);
+    done(next, codes, first, no_write())
+}
+
+fn cmpa(z: Size, g: &[u32; 16], at: u32, sr: u16, mem: &[u8], op: u32) -> Change
+    ensures { λ e. ⌜ e ≡ compareAddress z (now (g .entry)) at sr (now (mem .entry)) op ⌝ }
+{
+    let from = source(g, mem, plus(at, 2), op, z);
+    let got = from.got;
+    let v = match got {
+        Got::Value(v) => v,
+        Got::Fault(x) => return refused(x),
+    };
+    let next = from.next;
+    let first = from.moved;
+    let old = address_after(g, first, op / 512);
+    let r = subtracted(Size::Long, sign_extended(z, v), old, false);
+    let codes = compare_codes(sr, r);
+    done(next, codes, first, no_write())
+}
+
+pub fn logic_to_place(l: Logic, g: &[u32; 16], at: u32, sr: u16, mem: &[u8], op: u32) -> Change
+    ensures { λ e. ⌜ e ≡ logicToPlace l (now (g .entry)) at sr (now (mem .entry)) op ⌝ }
+{
+    let z = size_of(op / 64);
+    let target = operand(op / 8 % 8, op % 8);
+    let pc = plus(at, 2);
+    let place = locate(g, mem, pc, target, z);
+    let v = match fetch(g, mem, place, z) {
+        Got::Value(v) => v,
+        Got::Fault(x) => return refused(x),
+    };
+    let r = logic(l, v, data(g, op / 512));
+    let next = plus(pc, extension(target, z));
+    let codes = move_codes(z, r, sr);
+    let first = moved(g, target, z);
+    put(g, next, codes, first, no_write(), place, z, r)
+}
+
+pub fn lineb(row: u8, g: &[u32; 16], at: u32, sr: u16, mem: &[u8], op: u32) -> Change
+    ensures { λ e. ⌜ e ≡ lineBOf row (now (g .entry)) at sr (now (mem .entry)) op ⌝ }
+{
+    match row {
+        rows::CMPA_W => cmpa(Size::Word, g, at, sr, mem, op),
+        rows::CMPA_L => cmpa(Size::Long, g, at, sr, mem, op),
+        rows::CMP => cmp(g, at, sr, mem, op),
+        _ => logic_to_place(Logic::Eor, g, at, sr, mem, op),
+    }
+}

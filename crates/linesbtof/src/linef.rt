@@ -1,0 +1,79 @@
+// Line F: cache and debug instructions, and the words of the missing floating-point unit.
+use address::changes::done;
+use address::changes::enter;
+use address::changes::jump;
+use address::changes::privilege;
+use address::changes::refused;
+use address::operands::control;
+use address::operands::extension;
+use address::operands::locate;
+use address::operands::moved;
+use address::operands::operand;
+use manual::Change;
+use manual::Fault;
+use manual::Got;
+use manual::Place;
+use manual::Reached;
+use manual::Size;
+use word::flags::kept_codes;
+use word::registers::no_write;
+use word::word::plus;
+use word::word::size_of;
+ghost use mathlib.Core.Path.{_≡_};
+ghost use Prim.Native.Nat.{_+_, _*_, _/_, _%_, _<_};
+ghost use Rattle.instructions.specs.LineF.{writeDebug, cacheLine, writeDebugData, lineF as lineFOf};
+
+fn wdebug(g: &[u32; 16], at: u32, sr: u16, mem: &[u8], op: u32) -> Change
+    ensures { λ e. ⌜ e ≡ writeDebug (now (g .entry)) at sr (now (mem .entry)) op ⌝ }
+{
+    let target = operand(op / 8 % 8, op % 8);
+    let pc = plus(at, 2);
+    let Reached::At(got) = control(g, mem, pc, target) else {
+        return jump(sr, plus(pc, 2));
+    };
+    match got {
+        Got::Value(_) => jump(sr, plus(plus(pc, extension(target, Size::Long)), 2)),
+        Got::Fault(x) => refused(x),
+    }
+}
+
+fn cache_line(at: u32, sr: u16) -> Change
+    ensures { λ e. ⌜ e ≡ cacheLine at sr ⌝ }
+{
+    if sr / 0x2000 % 2 == 1 {
+        jump(sr, plus(at, 2))
+    } else {
+        privilege(at, sr)
+    }
+}
+
+fn wddata(g: &[u32; 16], at: u32, sr: u16, mem: &[u8], op: u32) -> Change
+    ensures { λ e. ⌜ e ≡ writeDebugData (now (g .entry)) at sr (now (mem .entry)) op ⌝ }
+{
+    let z = size_of(op / 64);
+    let target = operand(op / 8 % 8, op % 8);
+    let pc = plus(at, 2);
+    let place = locate(g, mem, pc, target, z);
+    let next = plus(pc, extension(target, z));
+    let codes = kept_codes(sr);
+    let first = moved(g, target, z);
+    let none = no_write();
+    match place {
+        Place::D(_) => done(next, codes, first, none),
+        Place::A(_) => done(next, codes, first, none),
+        Place::M(_) => done(next, codes, first, none),
+        Place::I(_) => done(next, codes, first, none),
+        Place::Fault(x) => refused(x),
+    }
+}
+
+pub fn linef(row: u8, g: &[u32; 16], at: u32, sr: u16, mem: &[u8], op: u32) -> Change
+    ensures { λ e. ⌜ e ≡ lineFOf row (now (g .entry)) at sr (now (mem .entry)) op ⌝ }
+{
+    match row {
+        rows::WDEBUG => wdebug(g, at, sr, mem, op),
+        rows::CACHE => cache_line(at, sr),
+        rows::WDDATA => wddata(g, at, sr, mem, op),
+        _ => enter(sr, 11, at),
+    }
+}
