@@ -1,0 +1,4 @@
+pub mod TestLaws
+pub mod RegisterLaws
+pub mod SignedLaws
+pub mod WordLaws

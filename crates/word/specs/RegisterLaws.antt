@@ -1,0 +1,37 @@
+-- The registers after a write. Assumes nothing.
+use mathlib.Core.Path.{_≡_, refl, sym}
+use mathlib.Core.Bool.{Bool, true, false, cond}
+use mathlib.Core.List.{List}
+use Prim.Native.Nat.{ℕ, _+_, _%_, _≤_, _<_}
+use native.Mathlib.Omega.{arith}
+use lib.Dec.{ltb}
+use lib.ListN.{length, set, length-set}
+use lib.Seq.{getD-set-same, getD-set-other}
+use borrow.Author.Tests.{lt-ltb, le-ltb}
+use Rattle.manual.specs.declared.Write.{Write}
+use Rattle.manual.specs.Registers.{addressOf, noWrite, written}
+use Rattle.word.specs.TestLaws.{by-lt}
+
+pub written-none : (g : List ℕ) → written noWrite g ≡ g
+unfolding written noWrite
+written-none g = refl
+
+-- a write keeps the number of registers
+pub length-written : (w : Write) (g : List ℕ) → length (written w g) ≡ length g
+unfolding written
+length-written w g = by-lt (w .to) 16
+    (λ h. rw (lt-ltb (w .to) 16 h) (length-set g (w .to) (w .value)))
+    (λ h. rw (le-ltb (w .to) 16 h))
+
+module _ (w : Write) (g : List ℕ) (r : ℕ) where
+  -- what was written
+  pub address-written : length g ≡ 16 → w .to ≡ 8 + r % 8 → w .value ≡ addressOf (written w g) r
+  unfolding addressOf written
+  address-written l e = sym (rw (← e, lt-ltb (w .to) 16 (omega arith), getD-set-same g (w .to) (w .value) 0 (omega arith)))
+
+  -- what was not
+  pub address-kept : (w .to ≡ 8 + r % 8 → ⊥) → addressOf g r ≡ addressOf (written w g) r
+  unfolding addressOf written
+  address-kept e = by-lt (w .to) 16
+      (λ h. rw (lt-ltb (w .to) 16 h) (sym (getD-set-other g (w .to) (8 + r % 8) (w .value) 0 (λ f. e (sym f)))))
+      (λ h. rw (le-ltb (w .to) 16 h))

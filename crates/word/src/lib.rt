@@ -1,0 +1,2 @@
+pub mod registers;
+pub mod word;
