@@ -2,3 +2,4 @@ pub mod TestLaws
 pub mod RegisterLaws
 pub mod SignedLaws
 pub mod WordLaws
+pub mod RaisedLaws
