@@ -1,0 +1,3 @@
+pub mod calls;
+pub mod entry;
+pub mod status;

@@ -1,0 +1,129 @@
+-- The laws of storing and reading back, each once over the size, and of the registers of a mask.
+-- Assumes nothing.
+use Prim.Native.Nat.{ℕ, zero, suc, _+_, _*_, _/_, _%_, _-_, _^_, _≤_, _<_}
+use mathlib.Core.Path.{_≡_, refl, sym, ap, _∙_}
+use mathlib.Core.Bool.{Bool, true, false, cond}
+use mathlib.Core.List.{List}
+use mathlib.Core.Logic.{_⊎_, ⊎-elim, inl, inr}
+use native.Mathlib.Omega.{arith}
+use native.Mathlib.Numerals.{sub-one}
+use native.Mathlib.Nat.{pow-succ', add-zero, add-assoc, div-div-eq-div-mul}
+use borrow.Author.Tests.{le-leb, lt-leb, eq-eqb, ne-eqb}
+use lib.Dec.{leb, eqb}
+use lib.ListN.{length, getD, set, length-set}
+use lib.Seq.{getD-set-same, getD-set-other}
+use Rattle.manual.specs.declared.Size.the-variants.{Long}
+use Rattle.manual.specs.Word.{plus}
+use Rattle.manual.specs.Registers.{general}
+use Rattle.manual.specs.Memory.{inside, valueAt, storeAt, stored, numberAt, manyInside, storedMany, loadedMany}
+
+-- ---- one number
+
+pub length-store : (m : List ℕ) (a n v : ℕ) → length (storeAt m a n v) ≡ length m
+unfolding storeAt
+length-store m a zero v = refl
+length-store m a (suc n) v = length-store (set m (a + n) (v % 256)) a n (v / 256) ∙ simp length-set
+
+-- a byte outside of what is stored is as it was
+pub byte-store : (m : List ℕ) (a n v j : ℕ) → (j < a) ⊎ (a + n ≤ j) → getD (storeAt m a n v) j 0 ≡ getD m j 0
+unfolding storeAt
+byte-store m a zero v j out = refl
+byte-store m a (suc n) v j out =
+    byte-store (set m (a + n) (v % 256)) a n (v / 256) j (⊎-elim (λ p. inl p) (λ p. inr (omega arith)) out)
+    ∙ getD-set-other m (a + n) j (v % 256) 0 (λ e. ⊎-elim (λ p. omega arith) (λ p. omega arith) out)
+
+-- what is read goes by the bytes read alone
+pub value-same : (m m′ : List ℕ) (a n : ℕ) → ((j : ℕ) → j < n → getD m (a + j) 0 ≡ getD m′ (a + j) 0) → valueAt m a n ≡ valueAt m′ a n
+unfolding valueAt
+value-same m m′ a zero same = refl
+value-same m m′ a (suc n) same =
+    let i : valueAt m a n ≡ valueAt m′ a n = value-same m m′ a n (λ j p. same j (omega arith)) in
+    let l : getD m (a + n) 0 ≡ getD m′ (a + n) 0 = same n (omega arith) in
+    cc
+
+-- what is read where nothing was stored is as it was
+pub read-other : (m : List ℕ) (a n v b k : ℕ) → (b + k ≤ a) ⊎ (a + n ≤ b) → valueAt (storeAt m a n v) b k ≡ valueAt m b k
+read-other m a n v b k apart =
+    value-same (storeAt m a n v) m b k
+    (λ j p. byte-store m a n v (b + j) (⊎-elim (λ q. inl (omega arith)) (λ q. inr (omega arith)) apart))
+
+-- what was stored is read back
+pub read-same : (m : List ℕ) (a n v : ℕ) → a + n ≤ length m → v < 256 ^ n → valueAt (storeAt m a n v) a n ≡ v
+unfolding valueAt storeAt
+read-same m a zero v inside small = omega arith
+read-same m a (suc n) v inside small =
+    let s : List ℕ = set m (a + n) (v % 256) in
+    let top : valueAt (storeAt s a n (v / 256)) a n ≡ v / 256 =
+    read-same s a n (v / 256) (simp length-set (omega arith)) (omega (arith, pow-succ' 256 n))
+    in
+    let low : getD (storeAt s a n (v / 256)) (a + n) 0 ≡ v % 256 =
+    byte-store s a n (v / 256) (a + n) (inr (omega arith)) ∙ getD-set-same m (a + n) (v % 256) 0 (omega arith)
+    in
+    omega (arith, top, low)
+
+-- n bytes are a number below 256 ^ n
+pub value-lt : (m : List ℕ) (a n : ℕ) → ((j : ℕ) → getD m j 0 < 256) → valueAt m a n < 256 ^ n
+unfolding valueAt
+value-lt m a zero bytes = omega arith
+value-lt m a (suc n) bytes = omega (arith, value-lt m a n bytes, bytes (a + n), pow-succ' 256 n)
+
+-- one byte of a store, in a loop's k and k - 1
+pub store-step : (m : List ℕ) (a k v : ℕ) → 0 < k → storeAt m a k v ≡ storeAt (set m (a + (k - 1)) (v % 256)) a (k - 1) (v / 256)
+unfolding storeAt
+store-step m a zero v h = absurd (omega arith)
+store-step m a (suc n) v h = rw sub-one
+
+-- ---- the sizes
+
+pub value-one : (m : List ℕ) (a : ℕ) → valueAt m a 1 ≡ getD m a 0
+unfolding valueAt
+value-one m a = rw add-zero (omega arith)
+
+pub value-two : (m : List ℕ) (a : ℕ) → valueAt m a 2 ≡ getD m a 0 * 256 + getD m (a + 1) 0
+unfolding valueAt
+value-two m a = rw add-zero (omega arith)
+
+pub value-four : (m : List ℕ) (a : ℕ) → valueAt m a 4 ≡ valueAt m a 2 * 0x1_0000 + valueAt m (a + 2) 2
+unfolding valueAt
+value-four m a = simp (add-zero, add-assoc) (omega arith)
+
+pub store-one : (m : List ℕ) (a v : ℕ) → storeAt m a 1 v ≡ set m a (v % 256)
+unfolding storeAt
+store-one m a v = rw add-zero
+
+pub store-two : (m : List ℕ) (a v : ℕ) → storeAt m a 2 v ≡ set (set m (a + 1) (v % 256)) a (v / 256 % 256)
+unfolding storeAt
+store-two m a v = rw add-zero
+
+pub store-four : (m : List ℕ) (a v : ℕ) → storeAt m a 4 v ≡ storeAt (storeAt m (a + 2) 2 v) a 2 (v / 0x1_0000)
+unfolding storeAt
+store-four m a v = simp (add-zero, add-assoc, div-div-eq-div-mul)
+
+-- ---- the registers of a mask
+
+-- whether they are inside goes by the length alone
+pub many-same : (left : ℕ) (m m′ : List ℕ) (mask at : ℕ) → length m ≡ length m′ → manyInside left m mask at ≡ manyInside left m′ mask at
+unfolding manyInside
+many-same zero m m′ mask at e = refl
+many-same (suc left) m m′ mask at e =
+    rw (many-same left m m′ (mask / 2) (plus at 4) e, many-same left m m′ (mask / 2) at e, e)
+
+either-length : (b : Bool) (x y : List ℕ) (k : ℕ) → length x ≡ k → length y ≡ k → length (cond b x y) ≡ k
+either-length true x y k p q = p
+either-length false x y k p q = q
+
+pub length-stored-many : (left : ℕ) (g : List ℕ) (n mask at : ℕ) (m : List ℕ) → length (storedMany left g n mask at m) ≡ length m
+unfolding storedMany
+length-stored-many zero g n mask at m = refl
+length-stored-many (suc left) g n mask at m =
+    either-length (eqb (mask % 2) 1) _ _ (length m)
+    (length-stored-many left g (n + 1) (mask / 2) (plus at 4) (stored m at Long (general g n)) ∙ length-store m at 4 (general g n))
+    (length-stored-many left g (n + 1) (mask / 2) at m)
+
+pub length-loaded-many : (left : ℕ) (m : List ℕ) (n mask at : ℕ) (g : List ℕ) → length (loadedMany left m n mask at g) ≡ length g
+unfolding loadedMany
+length-loaded-many zero m n mask at g = refl
+length-loaded-many (suc left) m n mask at g =
+    either-length (eqb (mask % 2) 1) _ _ (length g)
+    (length-loaded-many left m (n + 1) (mask / 2) (plus at 4) (set g n (numberAt m at Long)) ∙ simp length-set)
+    (length-loaded-many left m (n + 1) (mask / 2) at g)
