@@ -142,6 +142,9 @@ sets-mask e v h = record { macsr = h .macsr; acc = h .acc }
 -- ---- what each call keeps
 
 module _ (e : Emac) (h : emacAdmitted e ≡ true) where
+  pub with-acc-kept : (i m a : ℕ) → m < 0x1000 → a < 2 ^ 48 → emacAdmitted (withAcc i m a e) ≡ true
+  with-acc-kept i m a l g = admitted _ (with-acc e i m a (admits e h) l g)
+
   pub accumulate-kept : (i s : ℕ) (sub : Bool) (x y : ℕ) → emacAdmitted (accumulate e i s sub x y) ≡ true
   unfolding accumulate
   accumulate-kept i s sub x y =

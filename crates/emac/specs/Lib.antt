@@ -6,3 +6,4 @@ pub mod MacLaws
 pub mod FlagLaws
 pub mod EmacKept
 pub mod BlockLaws
+pub mod CallsKept

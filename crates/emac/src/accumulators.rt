@@ -20,7 +20,7 @@ pub fn acc_of(e: Emac, i: u32) -> u64
     e.acc[j]
 }
 
-pub fn with_acc(e: Emac, i: u32, macsr: u32, a: u64) -> Emac
+pub(crate) fn with_acc(e: Emac, i: u32, macsr: u32, a: u64) -> Emac
     ensures { λ r. ⌜ r ≡ withAcc i macsr a e ⌝ }
 {
     let j = (i % 4) as usize;
@@ -30,7 +30,7 @@ pub fn with_acc(e: Emac, i: u32, macsr: u32, a: u64) -> Emac
     next
 }
 
-pub fn acc_part(fi: bool, a: u64) -> u64
+pub(crate) fn acc_part(fi: bool, a: u64) -> u64
     ensures { λ r. ⌜ (r ≡ accPart fi a) × (r < 2 ^ 32) ⌝ }
 {
     if fi {
@@ -40,7 +40,7 @@ pub fn acc_part(fi: bool, a: u64) -> u64
     }
 }
 
-pub fn ext_part(fi: bool, a: u64) -> u64
+pub(crate) fn ext_part(fi: bool, a: u64) -> u64
     ensures { λ r. ⌜ (r ≡ extPart fi a) × (r < 2 ^ 32) ⌝ }
 {
     if fi {
@@ -50,7 +50,7 @@ pub fn ext_part(fi: bool, a: u64) -> u64
     }
 }
 
-pub fn pattern_of(fi: bool, acc: u64, ext: u64) -> u64
+pub(crate) fn pattern_of(fi: bool, acc: u64, ext: u64) -> u64
     requires { ⌜ (acc < 2 ^ 32) × (ext < 2 ^ 32) ⌝ }
     ensures { λ r. ⌜ r ≡ patternOf fi acc ext ⌝ }
 {

@@ -23,7 +23,7 @@ pub fn mode_of(macsr: u32) -> Mode
     }
 }
 
-pub fn pav(macsr: u32, i: u32) -> bool
+pub(crate) fn pav(macsr: u32, i: u32) -> bool
     ensures { λ r. ⌜ r ≡ pavOf macsr i ⌝ }
 {
     (macsr >> (8 + i % 4)) % 2 == 1
@@ -36,7 +36,7 @@ fn weighed(b: bool, w: u32) -> u32
     if b { w } else { 0 }
 }
 
-pub fn with_pav(macsr: u32, i: u32, b: bool) -> u32
+pub(crate) fn with_pav(macsr: u32, i: u32, b: bool) -> u32
     ensures { λ r. ⌜ r ≡ withPav macsr i b ⌝ }
 {
     match i % 4 {
@@ -69,7 +69,7 @@ fn low_flags(k: Mode, over: bool, a: u64) -> u32
     weighed(ev, 1) + weighed(over, 2) + weighed(a == 0, 4) + weighed(a >= 0x8000_0000_0000, 8)
 }
 
-pub fn flagged(k: Mode, macsr: u32, i: u32, over: bool, a: u64) -> u32
+pub(crate) fn flagged(k: Mode, macsr: u32, i: u32, over: bool, a: u64) -> u32
     ensures { λ r. ⌜ r ≡ flaggedOf k macsr i over a ⌝ }
 {
     with_pav(macsr / 16 * 16, i, over) + low_flags(k, over, a)

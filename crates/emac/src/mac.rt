@@ -18,7 +18,7 @@ ghost use Rattle.manual.specs.Admitted.{emacAdmitted};
 ghost use Rattle.emac.specs.Parts.{IsValue, IsSum, IsOutside, IsStored, IsSettled};
 
 // The number of a pattern.
-pub fn value_of(k: Mode, a: u64) -> u64
+pub(crate) fn value_of(k: Mode, a: u64) -> u64
     requires { ⌜ a < 2 ^ 48 ⌝ }
     ensures { λ r. ⌜ IsValue k a r ⌝ }
 {

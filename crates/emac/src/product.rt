@@ -12,13 +12,13 @@ ghost use Rattle.word.specs.RaisedLaws.{Up};
 ghost use Rattle.emac.specs.Parts.{IsFraction, IsNumber, IsScaled};
 
 // A number raised by 2^52, and whether it overflowed.
-pub struct Raised {
-    pub value: u64,
-    pub over: bool,
+pub(crate) struct Raised {
+    pub(crate) value: u64,
+    pub(crate) over: bool,
 }
 
 // Whether what is left over below a quotient rounds it up.
-pub fn rounds_up(m: u64, rest: u64, quotient: u64) -> bool
+pub(crate) fn rounds_up(m: u64, rest: u64, quotient: u64) -> bool
     requires { ⌜ rest < 2 ^ 63 ⌝ }
     ensures { λ r. ⌜ r ≡ roundsUp m rest (quotient % 2) ⌝ }
 {
@@ -118,7 +118,7 @@ fn signed_product(omc: bool, x: u32, y: u32) -> Raised
     }
 }
 
-pub fn mac_product(k: Mode, x: u32, y: u32) -> Raised
+pub(crate) fn mac_product(k: Mode, x: u32, y: u32) -> Raised
     ensures { λ r. ⌜ IsNumber (productOf k x y) (productOver k x y) r ⌝ }
 {
     if k.fi {
@@ -131,13 +131,13 @@ pub fn mac_product(k: Mode, x: u32, y: u32) -> Raised
 }
 
 // The scale factor is one of integers alone.
-pub fn scale_of(k: Mode, s: u32) -> u32
+pub(crate) fn scale_of(k: Mode, s: u32) -> u32
     ensures { λ r. ⌜ r ≡ scaleOf k s ⌝ }
 {
     if k.fi { 0 } else { s }
 }
 
-pub fn scaled(s: u32, v: u64) -> u64
+pub(crate) fn scaled(s: u32, v: u64) -> u64
     requires { ⌜ (2 ^ 52 - 2 ^ 50 - 1 ≤ v) × (v ≤ 2 ^ 52 + 2 ^ 50) ⌝ }
     ensures { λ r. ⌜ IsScaled s v r ⌝ }
 {
