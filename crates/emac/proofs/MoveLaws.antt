@@ -1,15 +1,14 @@
 -- What each way of the moves to accumulators, extensions and MACSR is, in plain numbers. Assumes nothing.
-use mathlib.Core.Path.{_≡_, refl, sym, ap, _∙_}
-use mathlib.Core.Bool.{Bool, true, false, cond}
+use mathlib.Core.Path.{_≡_, refl, ap}
+use mathlib.Core.Bool.{Bool, true, false}
 use mathlib.Core.List.{List, [], _∷_, map}
-use Prim.Native.Nat.{ℕ, zero, suc, _+_, _-_, _*_, _/_, _%_, _^_, _≤_, _<_}
+use Prim.Native.Nat.{ℕ, zero, suc, _+_, _-_, _*_, _%_, _^_, _≤_, _<_}
 use native.Mathlib.Omega.{arith}
 use lib.ListN.{length, getD}
-use lib.IntN.{ℤ, pos, negsuc, negℤ, _*ℤ_}
+use lib.IntN.{pos, negℤ}
 use Rattle.manual.specs.declared.Mode.{Mode}
 use Rattle.manual.specs.declared.Emac.{Emac}
-use Rattle.manual.specs.declared.Size.the-variants.{Long}
-use Rattle.manual.specs.Word.{modZ, signed}
+use Rattle.manual.specs.Word.{modZ}
 use Rattle.manual.specs.Emac.{has, accOf, withAcc, turned, setMacsr, loadedAs, withExt}
 use Rattle.emac.specs.ProductLaws.{long-pos, long-neg}
 

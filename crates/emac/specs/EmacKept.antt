@@ -1,8 +1,8 @@
 -- An admitted unit stays admitted, whatever is done to it. Assumes nothing.
-use mathlib.Core.Path.{_≡_, refl, sym, ap, _∙_}
+use mathlib.Core.Path.{_≡_}
 use mathlib.Core.Bool.{Bool, true, false, cond, not, _&&_, _||_}
 use mathlib.Core.List.{List, [], _∷_, map}
-use Prim.Native.Nat.{ℕ, zero, suc, _+_, _-_, _*_, _/_, _%_, _^_, _≤_, _<_}
+use Prim.Native.Nat.{ℕ, zero, suc, _+_, _-_, _/_, _%_, _^_, _<_}
 use native.Mathlib.Nat.{mod-lt}
 use native.Mathlib.Omega.{arith}
 use lib.Dec.{ltb}
@@ -12,7 +12,7 @@ use borrow.Author.Tests.{ltb-true, lt-ltb}
 use Rattle.manual.specs.declared.Mode.{Mode}
 use Rattle.manual.specs.declared.Emac.{Emac}
 use Rattle.manual.specs.Word.{modZ, negative}
-use Rattle.manual.specs.Emac.{has, modeOf, pav, withPav, accOf, withAcc, accPart, extPart, patternOf, turned, storedSum, inRange, limit, settled, accumulate, setMacsr, loadedAs, moveTo, copyAcc, clearAcc, withExt, setExt, setMask}
+use Rattle.manual.specs.Emac.{has, modeOf, pav, accOf, withAcc, accPart, extPart, patternOf, turned, inRange, limit, settled, accumulate, setMacsr, loadedAs, moveTo, copyAcc, clearAcc, withExt, setExt, setMask}
 use Rattle.manual.specs.Admitted.{pattern, emacAdmitted}
 use Rattle.emac.specs.BoolLaws.{and-left, and-right}
 use Rattle.emac.specs.FlagLaws.{Numbered, first, second, third, fourth, numbered, pav-below, flagged-below}

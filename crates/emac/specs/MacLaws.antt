@@ -1,14 +1,13 @@
 -- An accumulator's number, a sum, and what is stored of it: what each way of the code is, in plain numbers. Assumes nothing.
-use mathlib.Core.Path.{_≡_, refl, sym, ap, _∙_}
-use mathlib.Core.Bool.{Bool, true, false, cond, not, _&&_, _||_}
-use Prim.Native.Nat.{ℕ, suc, _+_, _-_, _%_, _^_, _≤_, _<_}
+use mathlib.Core.Path.{_≡_, refl, sym}
+use mathlib.Core.Bool.{Bool, true, false, _&&_, _||_}
+use Prim.Native.Nat.{ℕ, _+_, _-_, _%_, _^_, _≤_, _<_}
 use native.Mathlib.Omega.{arith}
 use lib.Dec.{ltb, leb}
-use lib.IntN.{ℤ, _+ℤ_, _-ℤ_}
 use Rattle.manual.specs.declared.Mode.{Mode}
 use Rattle.manual.specs.declared.Emac.{Emac}
 use Rattle.manual.specs.Word.{modZ}
-use Rattle.manual.specs.Emac.{modeOf, pav, productOf, productOver, scaled, scaleOf, valueOf, unsigned, limit, storedSum, sumOf, accOf, withAcc, flagged, settled, accumulate}
+use Rattle.manual.specs.Emac.{modeOf, pav, productOf, productOver, scaled, scaleOf, valueOf, unsigned, limit, sumOf, accOf, withAcc, flagged, settled, accumulate}
 use Rattle.word.specs.RaisedLaws.{Up, plus, minus, up-negative, out-half, out-whole, signed-up}
 use Rattle.emac.specs.Parts.{IsNumber, IsScaled, IsValue, IsSum, IsOutside, IsStored, IsSettled}
 use Rattle.emac.specs.NumberLaws.{mod48}

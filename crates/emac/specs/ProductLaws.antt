@@ -1,16 +1,15 @@
 -- The product of two longs as the code finds it, in each mode, and the scale factor: what each way is, in plain numbers. Assumes nothing.
 use mathlib.Core.Path.{_≡_, refl, sym, ap, _∙_}
 use mathlib.Core.Bool.{Bool, true, false, cond, not, _&&_, _||_}
-use Prim.Native.Nat.{ℕ, zero, suc, _+_, _-_, _*_, _/_, _%_, _^_, _≤_, _<_}
+use Prim.Native.Nat.{ℕ, suc, _+_, _-_, _*_, _/_, _%_, _^_, _≤_, _<_}
 use native.Mathlib.Nat.{mul-le-mul, le-of-lt, lt-of-le-of-lt, mul-le-mul-left, mul-lt-mul-of-pos-right}
 use native.Mathlib.Omega.{arith}
-use lib.Dec.{ltb, leb, eqb, lit<}
-use lib.IntN.{ℤ, pos, negsuc, negℤ, _*ℤ_}
+use lib.Dec.{ltb, leb, lit<}
+use lib.IntN.{ℤ, pos, negsuc, _*ℤ_}
 use borrow.Author.Tests.{ltb-true, lt-ltb, le-ltb, le-leb, lt-leb, eq-eqb, ne-eqb, not-true}
-use Rattle.manual.specs.declared.Mode.{Mode}
 use Rattle.manual.specs.declared.Size.the-variants.{Long}
-use Rattle.manual.specs.Word.{signed, signedAt, modZ, inHalf, negative}
-use Rattle.manual.specs.Emac.{fraction, signedProduct, unsignedProduct, roundsUp, scaled}
+use Rattle.manual.specs.Word.{signed, inHalf, negative}
+use Rattle.manual.specs.Emac.{fraction, signedProduct, unsignedProduct, roundsUp}
 use Rattle.word.specs.SignedLaws.{signed-pos, signed-neg}
 use Rattle.word.specs.WordLaws.{cut-small}
 use Rattle.word.specs.RaisedLaws.{Up, higher, plus, up-neg, up-negative, out-half, signed-up}

@@ -15,7 +15,6 @@ use manual::Reply;
 use manual::Told;
 use word::registers::with_emac;
 ghost use mathlib.Core.Path.{_≡_};
-ghost use Rattle.manual.specs.Registers.{withEmac};
 ghost use Rattle.manual.specs.EmacCalls.{doneWith, accGetCall, accSetCall, accPhysCall, setAccPhysCall, setMacsrCall};
 
 fn done_with(cpu: Cpu, e: Emac) -> Answer

@@ -1,5 +1,3 @@
-use mathlib.Core.Path.{_≡_, sym, ap, _∙_}
-use mathlib.Core.Bool.{Bool, _&&_}
 use Rattle.emac.specs.ProductLaws.{fraction-up, fraction-down}
 use borrow.Author.Needs.{needs}
 use Rattle.emac.proofs.product.fraction.Statement.{statement}
