@@ -1,0 +1,3 @@
+pub mod PerformLaws
+pub mod RunLaws
+pub mod StepLaws

@@ -1,0 +1,2 @@
+pub mod Advance
+pub mod KeptLaws

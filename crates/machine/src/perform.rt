@@ -1,0 +1,121 @@
+// What an instruction leaves is done, once all of it has been tested.
+use emac::accumulators::clear_acc;
+use emac::accumulators::copy_acc;
+use emac::accumulators::move_to;
+use emac::accumulators::set_ext;
+use emac::accumulators::set_macsr;
+use emac::accumulators::set_mask;
+use emac::mac::accumulate;
+use exceptions::entry::entered;
+use exceptions::entry::left;
+use exceptions::entry::refusal;
+use exceptions::status::with_status;
+use manual::Action;
+use manual::Change;
+use manual::Cpu;
+use manual::Level;
+use manual::Reply;
+use manual::Size;
+use manual::Stepped;
+use memory::many::load_many;
+use memory::many::many_inside;
+use memory::many::store_many;
+use memory::store;
+use word::registers::address;
+use word::registers::applied;
+use word::registers::with_address;
+use word::registers::with_emac;
+use word::registers::with_other;
+use word::registers::with_registers;
+use word::registers::with_stopped;
+use word::word::bytes;
+use word::word::minus;
+ghost use mathlib.Core.Path.{_≡_};
+ghost use mathlib.Core.Bool.{true};
+ghost use Prim.Native.Nat.{_+_, _*_, _/_, _%_};
+ghost use Rattle.manual.specs.Reply.{outcome};
+ghost use Rattle.manual.specs.Admitted.{admitted};
+ghost use Rattle.instructions.specs.Perform.{statusPushed, perform as performOf};
+ghost use Rattle.machine.specs.Advance.{quietly};
+
+// Done, and no vector was entered.
+fn quiet(cpu: Cpu) -> Stepped
+    ensures { λ r. ⌜ r ≡ quietly cpu ⌝ }
+{
+    Stepped {
+        reply: Reply::Done,
+        vector: 0,
+        cpu: cpu,
+    }
+}
+
+fn push_status(given: Cpu, cpu: Cpu, v: u32, mem: &mut [u8]) -> Stepped
+    ensures { λ r. ⌜ outcome r (now (mem .exit)) ≡ statusPushed given cpu v (now (mem .entry)) ⌝ }
+{
+    let g = cpu.r;
+    let sp = minus(address(&g, 7), 4);
+    let at = sp as usize;
+    if at + 4 <= mem.len() {
+        store(mem, at, Size::Long, cpu.sr as u32);
+        let pushed = with_address(cpu, 7, sp);
+        quiet(with_status(pushed, v))
+    } else {
+        refusal(given, Reply::NotInside)
+    }
+}
+
+pub fn perform(given: Cpu, change: Change, mem: &mut [u8]) -> Stepped
+    requires { ⌜ admitted given ≡ true ⌝ }
+    ensures { λ r. ⌜ outcome r (now (mem .exit)) ≡ performOf given change (now (mem .entry)) ⌝ }
+{
+    let cpu = applied(given, change);
+    let e = cpu.emac;
+    let action = change.action;
+    match action {
+        Action::Nothing => quiet(cpu),
+        Action::Store(a, z, v) => {
+            let at = a as usize;
+            if at + bytes(z) as usize <= mem.len() {
+                store(mem, at, z, v);
+                quiet(cpu)
+            } else {
+                refusal(given, Reply::NotInside)
+            }
+        }
+        Action::StoreMany(mask, a) => {
+            if many_inside(&*mem, mask, a) {
+                let g = cpu.r;
+                store_many(mem, &g, mask, a);
+                quiet(cpu)
+            } else {
+                refusal(given, Reply::NotInside)
+            }
+        }
+        Action::LoadMany(mask, a) => {
+            if many_inside(&*mem, mask, a) {
+                let held = cpu.r;
+                let g = load_many(&*mem, held, mask, a);
+                quiet(with_registers(cpu, g))
+            } else {
+                refusal(given, Reply::NotInside)
+            }
+        }
+        Action::Enter(vector, pc) => entered(given, cpu, Level::Kept, vector, pc, mem),
+        Action::Return => left(given, cpu, &*mem),
+        Action::Status(v) => quiet(with_status(cpu, v)),
+        Action::Stop(v) => quiet(with_stopped(with_status(cpu, v), true)),
+        Action::PushStatus(v) => push_status(given, cpu, v, mem),
+        Action::Halt => quiet(with_stopped(cpu, true)),
+        Action::Other(v) => quiet(with_other(cpu, v)),
+        Action::Accumulate(i, scale, sub, x, y) => {
+            quiet(with_emac(cpu, accumulate(e, i, scale, sub, x, y)))
+        }
+        Action::SetAcc(i, v) => quiet(with_emac(cpu, move_to(e, i, v))),
+        Action::SetExt(i, v) => quiet(with_emac(cpu, set_ext(e, i, v))),
+        Action::SetMacsr(v) => quiet(with_emac(cpu, set_macsr(e, v))),
+        Action::SetMask(v) => quiet(with_emac(cpu, set_mask(e, v))),
+        Action::CopyAcc(from, to) => quiet(with_emac(cpu, copy_acc(e, from, to))),
+        Action::ClearAcc(i) => quiet(with_emac(cpu, clear_acc(e, i))),
+        Action::Refuse(n) => refusal(given, n),
+    }
+}

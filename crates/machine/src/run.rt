@@ -1,0 +1,172 @@
+// Steps and runs.
+use super::Progress;
+use super::execute::execute;
+use super::perform::perform;
+use exceptions::entry::refusal;
+use exceptions::status::admitted;
+use manual::Action;
+use manual::Change;
+use manual::Cpu;
+use manual::Emac;
+use manual::Ran;
+use manual::Reply;
+use manual::Stepped;
+use memory::store;
+use word::registers::coded;
+use word::registers::with_parts;
+use word::registers::write;
+use word::word::bytes;
+ghost use mathlib.Core.Path.{_≡_};
+ghost use mathlib.Core.Bool.{true};
+ghost use Prim.Native.Nat.{_+_, _*_, _/_, _%_, _≤_};
+ghost use lib.ListN.{length};
+ghost use Rattle.manual.specs.Registers.{withParts};
+ghost use Rattle.manual.specs.Reply.{outcome};
+ghost use Rattle.manual.specs.Admitted.{admitted as admittedOf};
+ghost use Rattle.instructions.specs.Perform.{perform as performOf};
+ghost use Rattle.instructions.specs.Step.{step as stepOf};
+ghost use Rattle.instructions.specs.Run.{runOutcome, run as runOf};
+ghost use Rattle.machine.specs.Advance.{advance, endedAs, progress};
+
+fn ended(reply: Reply, count: u32, vector: u8, cpu: Cpu) -> Progress
+    ensures { λ r. ⌜ r ≡ endedAs reply count vector cpu ⌝ }
+{
+    Progress {
+        reply: reply,
+        count: count,
+        vector: vector,
+        cpu: cpu,
+    }
+}
+
+// The rare actions, out of the loop.
+fn rare(
+    rest: Cpu,
+    g: [u32; 16],
+    pc: u32,
+    sr: u16,
+    emac: Emac,
+    change: Change,
+    mem: &mut [u8],
+) -> Stepped
+    requires { ⌜ admittedOf (withParts g pc sr emac rest) ≡ true ⌝ }
+    ensures { λ r. ⌜ outcome r (now (mem .exit)) ≡ performOf (withParts g pc sr emac rest) change (now (mem .entry)) ⌝ }
+{
+    perform(with_parts(rest, g, pc, sr, emac), change, mem)
+}
+
+// As many steps as the budget says, or up to one that is refused. The registers stand apart from the rest of the state, and the common
+// actions are done here; the state is checked once, for every step keeps it admitted.
+fn advanced(given: Cpu, mem: &mut [u8], budget: u32) -> Progress
+    requires { ⌜ (length (now mem) ≤ 0x100_0000) × (admittedOf given ≡ true) ⌝ }
+    ensures { λ r. ⌜ advance r (now (mem .exit)) ≡ progress budget 0 0 given (now (mem .entry)) ⌝ }
+{
+    let mut g = given.r;
+    let mut pc = given.pc;
+    let mut sr = given.sr;
+    let mut emac = given.emac;
+    let mut rest = given;
+    let mut vector: u8 = 0;
+    let mut n: u32 = 0;
+    while n < budget {
+        let done = n + 1;
+        if rest.stopped {
+            return ended(Reply::Stopped, n, 0, with_parts(rest, g, pc, sr, emac));
+        }
+        let acc = emac.acc;
+        let change = execute(&g, pc, sr, rest.other, emac.macsr, emac.mask, &acc, &*mem);
+        let first = change.first;
+        let second = change.second;
+        let action = change.action;
+        match action {
+            Action::Nothing => {
+                write(&mut g, first);
+                write(&mut g, second);
+                pc = change.pc;
+                sr = coded(sr, change.ccr);
+                vector = 0;
+                n = done;
+                continue;
+            }
+            Action::Store(a, z, v) => {
+                let at = a as usize;
+                if at + bytes(z) as usize <= mem.len() {
+                    store(mem, at, z, v);
+                    write(&mut g, first);
+                    write(&mut g, second);
+                    pc = change.pc;
+                    sr = coded(sr, change.ccr);
+                    vector = 0;
+                    n = done;
+                    continue;
+                } else {
+                    return ended(Reply::NotInside, n, 0, with_parts(rest, g, pc, sr, emac));
+                }
+            }
+            _ => {
+                let stepped = rare(rest, g, pc, sr, emac, change, mem);
+                let next = stepped.cpu;
+                let reply = stepped.reply;
+                let Reply::Done = reply else {
+                    return ended(reply, n, 0, next);
+                };
+                rest = next;
+                g = next.r;
+                pc = next.pc;
+                sr = next.sr;
+                emac = next.emac;
+                vector = stepped.vector;
+                n = done;
+                continue;
+            }
+        }
+    }
+    ended(Reply::Done, n, vector, with_parts(rest, g, pc, sr, emac))
+}
+
+pub fn run(cpu: Cpu, mem: &mut [u8], budget: u32) -> Ran
+    ensures { λ r. ⌜ runOutcome r (now (mem .exit)) ≡ runOf budget cpu (now (mem .entry)) ⌝ }
+{
+    if 0x100_0000 < mem.len() {
+        return Ran {
+            reply: Reply::TooLong,
+            count: 0,
+            cpu: cpu,
+        };
+    }
+    if !admitted(cpu) {
+        return Ran {
+            reply: Reply::NotAdmitted,
+            count: 0,
+            cpu: cpu,
+        };
+    }
+    let came = advanced(cpu, mem, budget);
+    let reply = came.reply;
+    let last = came.cpu;
+    Ran {
+        reply: reply,
+        count: came.count,
+        cpu: last,
+    }
+}
+
+// One step is a run of one, so that `execute` has one caller and is compiled into the loop.
+pub fn step(cpu: Cpu, mem: &mut [u8]) -> Stepped
+    ensures { λ r. ⌜ outcome r (now (mem .exit)) ≡ stepOf cpu (now (mem .entry)) ⌝ }
+{
+    if 0x100_0000 < mem.len() {
+        return refusal(cpu, Reply::TooLong);
+    }
+    if !admitted(cpu) {
+        return refusal(cpu, Reply::NotAdmitted);
+    }
+    let came = advanced(cpu, mem, 1);
+    let reply = came.reply;
+    let last = came.cpu;
+    Stepped {
+        reply: reply,
+        vector: came.vector,
+        cpu: last,
+    }
+}
