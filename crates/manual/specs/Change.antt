@@ -30,17 +30,24 @@ done next codes one two = record { pc = next; ccr = codes; first = one; second =
 unfoldable pub store : ℕ → ℕ → Write → Write → ℕ → Size → ℕ → Change
 store next codes one two a z v = record { pc = next; ccr = codes; first = one; second = two; action = Store a z v }
 
--- no register but the program counter, and what is left to be done
-unfoldable pub acting : ℕ → ℕ → Action → Change
-acting sr next a = record { pc = next; ccr = keptCodes sr; first = noWrite; second = noWrite; action = a }
+-- an operand's move, and what is left to be done
+unfoldable pub acting : ℕ → ℕ → Write → Action → Change
+acting sr next one a = record { pc = next; ccr = keptCodes sr; first = one; second = noWrite; action = a }
 
--- an exception of a vector, with a pc in its frame
+-- an exception of a vector, with a pc in its frame, after an operand's move
+unfoldable pub enterAfter : Write → ℕ → ℕ → ℕ → Change
+enterAfter one sr vector at = acting sr at one (Enter vector at)
+
 unfoldable pub enter : ℕ → ℕ → ℕ → Change
-enter sr vector at = record { pc = at; ccr = keptCodes sr; first = noWrite; second = noWrite; action = Enter vector at }
+enter sr vector at = enterAfter noWrite sr vector at
 
 -- vector 4, with the pc of the word
 unfoldable pub illegal : ℕ → ℕ → Change
 illegal at sr = enter sr 4 at
+
+-- vector 8, with the pc of the word
+unfoldable pub privilege : ℕ → ℕ → Change
+privilege at sr = enter sr 8 at
 
 unfoldable pub refuse : Reply → Change
 refuse n = record { pc = 0; ccr = 0; first = noWrite; second = noWrite; action = Refuse n }
@@ -71,6 +78,14 @@ reading (NoValue x) f = refused x
 abbrev pub reaching : ℕ → ℕ → Reached → (ℕ → Change) → Change
 reaching sr at (At got) f = reading got f
 reaching sr at NoAddress f = illegal at sr
+
+-- goes on where a place was found, whatever it is
+abbrev pub locating : Place → Change → Change
+locating (D r) c = c
+locating (A r) c = c
+locating (M a) c = c
+locating (I v) c = c
+locating (NoPlace x) c = refused x
 
 -- a value of a size goes to a place, g being the registers after the first write. A data register keeps its other bits.
 -- A register's operand moves no address register, so the register takes the second write

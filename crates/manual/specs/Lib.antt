@@ -7,6 +7,7 @@ pub mod Memory
 pub mod Address
 pub mod Reply
 pub mod Change
+pub mod Bits
 pub mod Shift
 pub mod Multiply
 pub mod Divide

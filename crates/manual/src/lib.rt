@@ -82,6 +82,13 @@ pub struct Source {
     pub moved: Write,
 }
 
+// What AND, OR and EOR do to each pair of bits.
+pub enum Logic {
+    And,
+    Or,
+    Eor,
+}
+
 // A result of a size, and what it says of itself.
 pub struct Sum {
     pub value: u32,

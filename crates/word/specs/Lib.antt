@@ -2,3 +2,5 @@ pub mod TestLaws
 pub mod RegisterLaws
 pub mod SignedLaws
 pub mod WordLaws
+pub mod BitLaws
+pub mod RaisedLaws

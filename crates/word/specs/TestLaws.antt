@@ -1,6 +1,6 @@
 -- Tests on numbers: what each way of one says, and what the default of a `match` says. Assumes nothing.
 use mathlib.Core.Path.{_≡_, refl}
-use mathlib.Core.Bool.{Bool, true, false, cond}
+use mathlib.Core.Bool.{Bool, true, false, cond, Bool·beq}
 use Prim.Native.Nat.{ℕ, zero, suc, _+_, _-_, _≤_, _<_}
 use native.Mathlib.Omega.{arith}
 use lib.Dec.{leb, ltb}
@@ -25,6 +25,10 @@ by-lt {P = P} a b f g = go (ltb a b) refl
     go : (t : Bool) → ltb a b ≡ t → P
     go true e = f (ltb-true a b e)
     go false e = g (ltb-false a b e)
+
+pub beq-true : (b : Bool) → b ≡ Bool·beq true b
+beq-true true = refl
+beq-true false = refl
 
 -- ---- the default of a `match` on a number
 

@@ -1,0 +1,322 @@
+-- Line 4: miscellaneous. The manual: LEA, PEA, JSR, JMP, RTS, RTE, STOP, HALT, PULSE, NOP, TRAP, LINK, UNLK, MOVEM, MOVE to and
+-- from SR, CCR and USP, STRLDSR, EXT, EXTB, SWAP, SATS, NEG, NEGX, NOT, CLR, TST, TAS, MULS.L, MULU.L, DIVS.L, DIVU.L, REMS.L, REMU.L.
+use Prim.Native.Nat.{ℕ, _+_, _-_, _*_, _/_, _%_, _^_}
+use mathlib.Core.Bool.{Bool, true, false, cond, not}
+use mathlib.Core.List.{List, [], _∷_}
+use lib.Dec.{eqb, ltb}
+use lib.ListN.{getD}
+use Rattle.manual.specs.declared.Size.{Size}
+use Rattle.manual.specs.declared.Size.the-variants.{Byte, Word, Long}
+use Rattle.manual.specs.declared.Operand.{Operand}
+use Rattle.manual.specs.declared.Operand.the-variants.{Immediate}
+use Rattle.manual.specs.declared.Source.{Source}
+use Rattle.manual.specs.declared.Place.{Place}
+use Rattle.manual.specs.declared.Write.{Write}
+use Rattle.manual.specs.declared.Change.{Change}
+use Rattle.manual.specs.declared.Sum.{Sum}
+use Rattle.manual.specs.declared.Quotient.{Quotient}
+use Rattle.manual.specs.declared.Action.{Action}
+use Rattle.manual.specs.declared.Action.the-variants.{Return, Status, Stop, PushStatus, Halt, Other, StoreMany, LoadMany}
+use Rattle.manual.specs.Word.{plus, minus, cut, merged, signExtended, sizeOf}
+use Rattle.manual.specs.Bits.{withBit}
+use Rattle.manual.specs.Multiply.{longProduct, signedLongProduct}
+use Rattle.manual.specs.Divide.{quotient, signedQuotient, overflowCodes}
+use Rattle.manual.specs.Registers.{dataOf, addressOf, noWrite, writeData, writeAddress}
+use Rattle.manual.specs.Flags.{flagX, flagV, moveCodes, keptCodes, sumCodes, extendedCodes, subtracted}
+use Rattle.manual.specs.Exceptions.{supervisor}
+use Rattle.manual.specs.Memory.{load}
+use Rattle.manual.specs.Address.{operand, extension, source, moved, locate, fetch, control}
+use Rattle.manual.specs.Change.{done, store, acting, enter, enterAfter, illegal, privilege, notCarried, jump, push, reading, reaching, put}
+use Rattle.instructions.specs.Rows.{placeIn}
+
+-- the operand that bits 5 to 0 name
+abbrev named : ℕ → Operand
+named op = operand (op / 8 % 8) (op % 8)
+
+-- ---- control
+
+-- NOP and PULSE
+unfoldable pub nothing : ℕ → ℕ → Change
+nothing at sr = jump sr (plus at 2)
+
+-- LEA: the address itself into An
+unfoldable pub lea : List ℕ → ℕ → ℕ → List ℕ → ℕ → Change
+lea g at sr m op =
+    let pc : ℕ = plus at 2 in
+    reaching sr at (control g m pc (named op)) λ a.
+    done (plus pc (extension (named op) Long)) (keptCodes sr) noWrite (writeAddress (op / 512) a)
+
+-- PEA: the address is pushed
+unfoldable pub pea : List ℕ → ℕ → ℕ → List ℕ → ℕ → Change
+pea g at sr m op =
+    let pc : ℕ = plus at 2 in
+    reaching sr at (control g m pc (named op)) λ a.
+    push g sr (plus pc (extension (named op) Long)) a
+
+-- JSR: the address of the next instruction is pushed
+unfoldable pub jsr : List ℕ → ℕ → ℕ → List ℕ → ℕ → Change
+jsr g at sr m op =
+    let pc : ℕ = plus at 2 in
+    reaching sr at (control g m pc (named op)) λ a.
+    push g sr a (plus pc (extension (named op) Long))
+
+unfoldable pub jmp : List ℕ → ℕ → ℕ → List ℕ → ℕ → Change
+jmp g at sr m op =
+    reaching sr at (control g m (plus at 2) (named op)) λ a.
+    jump sr a
+
+-- RTS: the program counter is popped
+unfoldable pub rts : List ℕ → ℕ → List ℕ → Change
+rts g sr m =
+    let sp : ℕ = addressOf g 7 in
+    reading (load m sp Long) λ v.
+    done v (keptCodes sr) (writeAddress 7 (plus sp 4)) noWrite
+
+-- TRAP: the frame's pc is that of the next instruction
+unfoldable pub trap : ℕ → ℕ → ℕ → Change
+trap at sr op = enter sr (32 + op % 16) (plus at 2)
+
+-- LINK: An is pushed and takes the stack pointer, to which the displacement is added
+unfoldable pub link : List ℕ → ℕ → ℕ → List ℕ → ℕ → Change
+link g at sr m op =
+    let pc : ℕ = plus at 2 in
+    let sp : ℕ = minus (addressOf g 7) 4 in
+    reading (load m pc Word) λ d.
+    store (plus pc 2) (keptCodes sr) (writeAddress op sp) (writeAddress 7 (plus sp (signExtended Word d))) sp Long (addressOf g op)
+
+-- UNLK: the stack pointer is An, and An is popped
+unfoldable pub unlk : List ℕ → ℕ → ℕ → List ℕ → ℕ → Change
+unlk g at sr m op =
+    let a : ℕ = addressOf g op in
+    reading (load m a Long) λ v.
+    done (plus at 2) (keptCodes sr) (writeAddress 7 (plus a 4)) (writeAddress op v)
+
+-- ---- the supervisor's
+
+unfoldable pub rte : ℕ → ℕ → Change
+rte at sr = cond (supervisor sr) (acting sr (plus at 2) noWrite Return) (privilege at sr)
+
+-- 12. STOP, STRLDSR and MOVE to SR fetch and read before the privilege test. The manual: the violation comes before any effect
+unfoldable pub stop : ℕ → ℕ → List ℕ → Change
+stop at sr m =
+    let pc : ℕ = plus at 2 in
+    reading (load m pc Word) λ v.
+    cond (supervisor sr) (acting sr (plus pc 2) noWrite (Stop v)) (privilege at sr)
+
+-- STRLDSR: the second word is 0x46FC
+unfoldable pub stldsr : ℕ → ℕ → List ℕ → Change
+stldsr at sr m =
+    let pc : ℕ = plus at 2 in
+    reading (load m pc Word) λ w.
+    cond (eqb w 0x46FC)
+    (reading (load m (plus pc 2) Word) λ v.
+    cond (supervisor sr) (acting sr (plus pc 4) noWrite (PushStatus v)) (privilege at sr))
+    (illegal at sr)
+
+-- 8. HALT is not privileged, and an entry wakes the core. The manual: it is, and the debug port alone resumes
+unfoldable pub halt : ℕ → ℕ → Change
+halt at sr = acting sr (plus at 2) noWrite Halt
+
+unfoldable pub toUsp : List ℕ → ℕ → ℕ → ℕ → Change
+toUsp g at sr op = cond (supervisor sr) (acting sr (plus at 2) noWrite (Other (addressOf g op))) (privilege at sr)
+
+unfoldable pub fromUsp : ℕ → ℕ → ℕ → ℕ → Change
+fromUsp at sr other op = cond (supervisor sr) (done (plus at 2) (keptCodes sr) noWrite (writeAddress op other)) (privilege at sr)
+
+-- 15. MOVE from SR to anything but Dn is a violation in user mode. The manual: illegal
+unfoldable pub fromSr : List ℕ → ℕ → ℕ → ℕ → Change
+fromSr g at sr op =
+    cond (supervisor sr)
+    (cond (eqb (op / 8 % 8) 0)
+    (done (plus at 2) (keptCodes sr) noWrite (writeData op (merged Word (dataOf g op) sr)))
+    (illegal at sr))
+    (privilege at sr)
+
+unfoldable pub toSr : List ℕ → ℕ → ℕ → List ℕ → ℕ → Change
+toSr g at sr m op =
+    let from : Source = source g m (plus at 2) op Word in
+    reading (from .got) λ v.
+    cond (supervisor sr) (acting sr (from .next) (from .moved) (Status v)) (enterAfter (from .moved) sr 8 at)
+
+unfoldable pub fromCcr : List ℕ → ℕ → ℕ → ℕ → Change
+fromCcr g at sr op = done (plus at 2) (keptCodes sr) noWrite (writeData op (merged Word (dataOf g op) (keptCodes sr)))
+
+unfoldable pub toCcr : List ℕ → ℕ → List ℕ → ℕ → Change
+toCcr g at m op =
+    let from : Source = source g m (plus at 2) op Word in
+    reading (from .got) λ v.
+    done (from .next) (keptCodes v) (from .moved) noWrite
+
+-- ---- MOVEM: a word that names the registers, D0 in bit 0, and then the address in modes 2 and 5
+-- 15. Any other mode fetches the word first. The manual: illegal
+
+unfoldable pub moveMany : (ℕ → ℕ → Action) → List ℕ → ℕ → ℕ → List ℕ → ℕ → Change
+moveMany act g at sr m op =
+    let pc : ℕ = plus at 2 in
+    let a : ℕ = addressOf g op in
+    reading (load m pc Word) λ mask.
+    cond (eqb (op / 8 % 8) 2)
+    (acting sr (plus pc 2) noWrite (act mask a))
+    (cond (eqb (op / 8 % 8) 5)
+    (reading (load m (plus pc 2) Word) λ d.
+    acting sr (plus pc 4) noWrite (act mask (plus a (signExtended Word d))))
+    (illegal at sr))
+
+abbrev pub storeMany : List ℕ → ℕ → ℕ → List ℕ → ℕ → Change
+storeMany = moveMany (λ mask a. StoreMany mask a)
+
+abbrev pub loadMany : List ℕ → ℕ → ℕ → List ℕ → ℕ → Change
+loadMany = moveMany (λ mask a. LoadMany mask a)
+
+-- ---- one data register
+
+-- EXTB.L: a byte to a long
+unfoldable pub extendByte : List ℕ → ℕ → ℕ → ℕ → Change
+extendByte g at sr op =
+    let v : ℕ = signExtended Byte (dataOf g op) in
+    done (plus at 2) (moveCodes Long v sr) noWrite (writeData op v)
+
+-- EXT.W: a byte to a word
+unfoldable pub extendToWord : List ℕ → ℕ → ℕ → ℕ → Change
+extendToWord g at sr op =
+    let v : ℕ = cut Word (signExtended Byte (dataOf g op)) in
+    done (plus at 2) (moveCodes Word v sr) noWrite (writeData op (merged Word (dataOf g op) v))
+
+-- EXT.L: a word to a long
+unfoldable pub extendToLong : List ℕ → ℕ → ℕ → ℕ → Change
+extendToLong g at sr op =
+    let v : ℕ = signExtended Word (dataOf g op) in
+    done (plus at 2) (moveCodes Long v sr) noWrite (writeData op v)
+
+-- SWAP: the two words change places
+unfoldable pub swap : List ℕ → ℕ → ℕ → ℕ → Change
+swap g at sr op =
+    let v : ℕ = dataOf g op % 0x1_0000 * 0x1_0000 + dataOf g op / 0x1_0000 in
+    done (plus at 2) (moveCodes Long v sr) noWrite (writeData op v)
+
+-- SATS: after an overflow, the largest number of the sign that the value should have had
+unfoldable pub saturated : ℕ → ℕ → ℕ
+saturated sr v = cond (flagV sr) (cond (ltb v 0x8000_0000) 0x8000_0000 0x7FFF_FFFF) v
+
+unfoldable pub saturate : List ℕ → ℕ → ℕ → ℕ → Change
+saturate g at sr op =
+    let v : ℕ = saturated sr (dataOf g op) in
+    done (plus at 2) (moveCodes Long v sr) noWrite (writeData op v)
+
+unfoldable pub negate : List ℕ → ℕ → ℕ → Change
+negate g at op =
+    let r : Sum = subtracted Long (dataOf g op) 0 false in
+    done (plus at 2) (sumCodes r) noWrite (writeData op (r .value))
+
+unfoldable pub negateExtended : List ℕ → ℕ → ℕ → ℕ → Change
+negateExtended g at sr op =
+    let r : Sum = subtracted Long (dataOf g op) 0 (flagX sr) in
+    done (plus at 2) (extendedCodes sr r) noWrite (writeData op (r .value))
+
+unfoldable pub complement : List ℕ → ℕ → ℕ → ℕ → Change
+complement g at sr op =
+    let v : ℕ = 0xFFFF_FFFF - dataOf g op in
+    done (plus at 2) (moveCodes Long v sr) noWrite (writeData op v)
+
+-- ---- one operand
+
+-- CLR: the operand is not read
+unfoldable pub clear : List ℕ → ℕ → ℕ → List ℕ → ℕ → Change
+clear g at sr m op =
+    let z : Size = sizeOf (op / 64) in
+    let pc : ℕ = plus at 2 in
+    put g (plus pc (extension (named op) z)) (moveCodes z 0 sr) (moved g (named op) z) noWrite (locate g m pc (named op) z) z 0
+
+unfoldable pub test : List ℕ → ℕ → ℕ → List ℕ → ℕ → Change
+test g at sr m op =
+    let z : Size = sizeOf (op / 64) in
+    let from : Source = source g m (plus at 2) op z in
+    reading (from .got) λ v.
+    done (from .next) (moveCodes z v sr) (from .moved) noWrite
+
+-- TAS: a byte is tested, and its highest bit set
+unfoldable pub testAndSet : List ℕ → ℕ → ℕ → List ℕ → ℕ → Change
+testAndSet g at sr m op =
+    let pc : ℕ = plus at 2 in
+    let place : Place = locate g m pc (named op) Byte in
+    reading (fetch g m place Byte) λ v.
+    put g (plus pc (extension (named op) Byte)) (moveCodes Byte v sr) (moved g (named op) Byte) noWrite place Byte (withBit 7 true v)
+
+-- MULU.L and MULS.L: bits 14 to 12 of the second word name the register, and bit 11 says signed
+unfoldable pub multiply : List ℕ → ℕ → ℕ → List ℕ → ℕ → Change
+multiply g at sr m op =
+    let pc : ℕ = plus at 2 in
+    reading (load m pc Word) λ w.
+    let from : Source = source g m (plus pc 2) op Long in
+    reading (from .got) λ v.
+    let d : ℕ = dataOf g (w / 0x1000) in
+    let r : ℕ = cond (eqb (w / 0x800 % 2) 1) (signedLongProduct d v) (longProduct d v) in
+    done (from .next) (moveCodes Long r sr) (from .moved) (writeData (w / 0x1000) r)
+
+-- DIVU.L and DIVS.L; bits 2 to 0 of the second word name another register for REMU.L and REMS.L, whose condition codes are the
+-- quotient's too
+unfoldable pub divided : ℕ → ℕ → ℕ → Quotient
+divided w d v = cond (eqb (w / 0x800 % 2) 1) (signedQuotient d v) (quotient d v)
+
+abbrev pub quotientTo : ℕ → Quotient → Write
+quotientTo w q = cond (eqb (w / 0x1000 % 8) (w % 8)) (writeData w (q .quotient)) (writeData w (q .remainder))
+
+unfoldable pub divide : List ℕ → ℕ → ℕ → List ℕ → ℕ → Change
+divide g at sr m op =
+    let pc : ℕ = plus at 2 in
+    reading (load m pc Word) λ w.
+    let from : Source = source g m (plus pc 2) op Long in
+    reading (from .got) λ v.
+    let q : Quotient = divided w (dataOf g (w / 0x1000)) v in
+    -- 1. a divide by zero has the next instruction's pc in its frame. The manual: the divide's
+    cond (eqb v 0) (enterAfter (from .moved) sr 5 (from .next))
+    (cond (q .fits)
+    (done (from .next) (moveCodes Long (q .quotient) sr) (from .moved) (quotientTo w q))
+    (done (from .next) (overflowCodes sr) (from .moved) noWrite))
+
+-- ---- the rows of the line, from 20 on; every other word is illegal
+
+unfoldable pub line4 : ℕ → List ℕ → ℕ → ℕ → ℕ → List ℕ → ℕ → Change
+line4 row g at sr other m op =
+    getD
+    (nothing at sr ∷
+    stop at sr m ∷
+    rte at sr ∷
+    rts g sr m ∷
+    notCarried ∷
+    notCarried ∷
+    halt at sr ∷
+    nothing at sr ∷
+    illegal at sr ∷
+    stldsr at sr m ∷
+    extendByte g at sr op ∷
+    link g at sr m op ∷
+    unlk g at sr m op ∷
+    toUsp g at sr op ∷
+    fromUsp at sr other op ∷
+    fromCcr g at sr op ∷
+    swap g at sr op ∷
+    extendToWord g at sr op ∷
+    extendToLong g at sr op ∷
+    saturate g at sr op ∷
+    negateExtended g at sr op ∷
+    negate g at op ∷
+    complement g at sr op ∷
+    trap at sr op ∷
+    jsr g at sr m op ∷
+    jmp g at sr m op ∷
+    fromSr g at sr op ∷
+    illegal at sr ∷
+    toCcr g at m op ∷
+    toSr g at sr m op ∷
+    pea g at sr m op ∷
+    storeMany g at sr m op ∷
+    loadMany g at sr m op ∷
+    multiply g at sr m op ∷
+    divide g at sr m op ∷
+    testAndSet g at sr m op ∷
+    clear g at sr m op ∷
+    test g at sr m op ∷
+    lea g at sr m op ∷
+    [])
+    (placeIn 20 row) (illegal at sr)

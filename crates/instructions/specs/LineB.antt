@@ -1,0 +1,60 @@
+-- Line B: CMP, CMPA and EOR, and what the logic instructions of other lines share with EOR. The manual: the same names.
+use Prim.Native.Nat.{ℕ, _+_, _-_, _*_, _/_, _%_, _^_}
+use mathlib.Core.Bool.{Bool, true, false, cond, not}
+use mathlib.Core.List.{List, [], _∷_}
+use lib.Dec.{eqb, ltb}
+use lib.ListN.{getD}
+use Rattle.manual.specs.declared.Size.{Size}
+use Rattle.manual.specs.declared.Size.the-variants.{Byte, Word, Long}
+use Rattle.manual.specs.declared.Operand.{Operand}
+use Rattle.manual.specs.declared.Source.{Source}
+use Rattle.manual.specs.declared.Place.{Place}
+use Rattle.manual.specs.declared.Write.{Write}
+use Rattle.manual.specs.declared.Sum.{Sum}
+use Rattle.manual.specs.declared.Change.{Change}
+use Rattle.manual.specs.declared.Logic.{Logic}
+use Rattle.manual.specs.declared.Logic.the-variants.{Eor}
+use Rattle.manual.specs.Word.{plus, signExtended, sizeOf}
+use Rattle.manual.specs.Bits.{logic}
+use Rattle.manual.specs.Registers.{dataOf, addressOf, noWrite, written}
+use Rattle.manual.specs.Flags.{moveCodes, compareCodes, subtracted}
+use Rattle.manual.specs.Address.{operand, extension, source, moved, locate, fetch}
+use Rattle.manual.specs.Change.{done, reading, put}
+use Rattle.manual.specs.Differences.{anySize}
+use Rattle.instructions.specs.Rows.{placeIn}
+
+-- CMP <ea>,Dn
+unfoldable pub compareData : List ℕ → ℕ → ℕ → List ℕ → ℕ → Change
+compareData g at sr m op =
+    let z : Size = sizeOf (op / 64) in
+    let from : Source = source g m (plus at 2) op z in
+    reading (from .got) λ v.
+    done (from .next) (compareCodes sr (subtracted z v (dataOf g (op / 512)) false)) (from .moved) noWrite
+
+-- CMPA <ea>,An: the source sign-extended, all 32 bits of An as the source's move left it
+unfoldable pub compareAddress : Size → List ℕ → ℕ → ℕ → List ℕ → ℕ → Change
+compareAddress z g at sr m op =
+    let from : Source = source g m (plus at 2) op z in
+    reading (from .got) λ v.
+    let r : Sum = subtracted Long (signExtended z v) (addressOf (written (from .moved) g) (op / 512)) false in
+    done (from .next) (compareCodes sr r) (from .moved) noWrite
+
+-- AND Dn,<ea> and EOR Dn,<ea>
+-- 24. To An, the low part of An is combined with all of Dn, and all 32 bits are stored. The manual: no such form
+unfoldable pub logicToPlace : Logic → List ℕ → ℕ → ℕ → List ℕ → ℕ → Change
+logicToPlace l g at sr m op =
+    let z : Size = anySize op in
+    let target : Operand = operand (op / 8 % 8) (op % 8) in
+    let pc : ℕ = plus at 2 in
+    let place : Place = locate g m pc target z in
+    reading (fetch g m place z) λ v.
+    let r : ℕ = logic l v (dataOf g (op / 512)) in
+    put g (plus pc (extension target z)) (moveCodes z r sr) (moved g target z) noWrite place z r
+
+-- ---- the rows of the line, from 99 on
+
+unfoldable pub lineB : ℕ → List ℕ → ℕ → ℕ → List ℕ → ℕ → Change
+lineB row g at sr m op =
+    getD
+    (compareAddress Word g at sr m op ∷ compareAddress Long g at sr m op ∷ compareData g at sr m op ∷ [])
+    (placeIn 99 row) (logicToPlace Eor g at sr m op)
