@@ -170,11 +170,11 @@ module _ (e : Emac) (h : emacAdmitted e ≡ true) where
   unfolding clearAcc
   clear-acc-kept i = admitted _ (with-acc e i _ 0 (admits e h) (pav-below 1 (e .macsr) false (macsr-small e h) i) (omega arith))
 
-  pub set-ext-kept : (i v : ℕ) → v < 2 ^ 32 → emacAdmitted (setExt e i v) ≡ true
+  pub set-ext-kept : (i v : ℕ) → emacAdmitted (setExt e i v) ≡ true
   unfolding setExt
-  set-ext-kept i v l =
+  set-ext-kept i v =
       let fi = has (e .macsr) 5 in
-      admitted _ (with-ext fi _ (i + 1) (v % 2 ^ 16) (with-ext fi e i (v / 2 ^ 16) (admits e h) (omega arith)) (omega arith))
+      admitted _ (with-ext fi _ (i + 1) (v % 2 ^ 16) (with-ext fi e i (v / 2 ^ 16 % 2 ^ 16) (admits e h) (omega arith)) (omega arith))
 
   pub set-mask-kept : (v : ℕ) → emacAdmitted (setMask e v) ≡ true
   set-mask-kept v = admitted _ (sets-mask e v (admits e h))

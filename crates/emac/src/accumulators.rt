@@ -153,7 +153,7 @@ pub fn set_ext(e: Emac, i: u32, v: u32) -> Emac
     ensures { λ r. ⌜ r ≡ setExt e i v ⌝ }
 {
     let fi = fractional(e.macsr);
-    let first = with_ext(fi, e, i, v / 0x1_0000);
+    let first = with_ext(fi, e, i, v / 0x1_0000 % 0x1_0000);
     with_ext(fi, first, i % 4 + 1, v % 0x1_0000)
 }
 
