@@ -69,7 +69,16 @@ longsAt b (suc count) a = valueAt b a 4 ∷ longsAt b count (a + 4)
 abbrev pub accNumber : List ℕ → ℕ → ℕ
 accNumber b i = valueAt b (accAt i) 8
 
--- the state that the block's bytes say; an accumulator's pattern is the 48 low bits of its number
+-- the unit that the block's bytes say; an accumulator's pattern is the 48 low bits of its number
+unfoldable pub emacAt : List ℕ → Emac
+emacAt b =
+    record {
+      macsr = valueAt b macsrAt 4;
+      mask = valueAt b maskAt 4;
+      acc = accNumber b 0 % 2 ^ 48 ∷ accNumber b 1 % 2 ^ 48 ∷ accNumber b 2 % 2 ^ 48 ∷ accNumber b 3 % 2 ^ 48 ∷ [];
+    }
+
+-- the state that they say
 unfoldable pub stateAt : List ℕ → Cpu
 stateAt b =
     record {
@@ -79,23 +88,22 @@ stateAt b =
       other = valueAt b otherAt 4;
       vbr = valueAt b vbrAt 4;
       cacr = valueAt b cacrAt 4;
-      emac = record {
-        macsr = valueAt b macsrAt 4;
-        mask = valueAt b maskAt 4;
-        acc = accNumber b 0 % 2 ^ 48 ∷ accNumber b 1 % 2 ^ 48 ∷ accNumber b 2 % 2 ^ 48 ∷ accNumber b 3 % 2 ^ 48 ∷ [];
-      };
+      emac = emacAt b;
       stopped = eqb (valueAt b stoppedAt 1) 1;
     }
 
--- whether they say an admitted state: each accumulator's number is in the range of the mode, and the last byte is 0 or 1
-unfoldable pub saysAdmitted : List ℕ → Bool
-saysAdmitted b =
+-- whether each accumulator's number is in the range of the mode, and the last byte is 0 or 1
+unfoldable pub numbersFit : List ℕ → Bool
+numbersFit b =
     let k : Mode = modeOf (valueAt b macsrAt 4) in
-    admitted (stateAt b)
-    && (blockInRange k (accNumber b 0)
+    blockInRange k (accNumber b 0)
     && (blockInRange k (accNumber b 1)
     && (blockInRange k (accNumber b 2)
-    && (blockInRange k (accNumber b 3) && ltb (valueAt b stoppedAt 1) 2))))
+    && (blockInRange k (accNumber b 3) && ltb (valueAt b stoppedAt 1) 2)))
+
+-- whether they say an admitted state
+abbrev pub saysAdmitted : List ℕ → Bool
+saysAdmitted b = admitted (stateAt b) && numbersFit b
 
 -- a refused read gives the fresh state
 abbrev pub notRead : Reply → Answer
@@ -112,34 +120,43 @@ readBlock b =
 
 -- ---- storing
 
+-- the version and the length, and nothing else yet
+unfoldable pub headed : List ℕ
+headed = storeAt (storeAt (replicate 128 0) 0 1 1) 1 4 123
+
 -- longs one after the other from a on
 unfoldable pub withLongs : List ℕ → ℕ → ℕ → ℕ → List ℕ → List ℕ
 withLongs g i zero a b = b
 withLongs g i (suc left) a b = withLongs g (i + 1) left (a + 4) (storeAt b a 4 (getD g i 0))
 
-abbrev pub withAccs : Cpu → List ℕ → List ℕ
-withAccs s b =
-    let k : Mode = modeOf (s .emac .macsr) in
-    let number : ℕ → ℕ = λ i. blockNumber k (accOf (s .emac) i) in
+unfoldable pub withControls : Cpu → List ℕ → List ℕ
+withControls s b =
+    let b1 : List ℕ = storeAt (storeAt b pcAt 4 (s .pc)) srAt 2 (s .sr) in
+    storeAt (storeAt (storeAt b1 otherAt 4 (s .other)) vbrAt 4 (s .vbr)) cacrAt 4 (s .cacr)
+
+unfoldable pub withAccs : Emac → List ℕ → List ℕ
+withAccs e b =
+    let number : ℕ → ℕ = λ i. blockNumber (modeOf (e .macsr)) (accOf e i) in
     storeAt (storeAt (storeAt (storeAt b (accAt 0) 8 (number 0)) (accAt 1) 8 (number 1)) (accAt 2) 8 (number 2)) (accAt 3) 8 (number 3)
+
+unfoldable pub withUnit : Emac → List ℕ → List ℕ
+withUnit e b = withAccs e (storeAt (storeAt b macsrAt 4 (e .macsr)) maskAt 4 (e .mask))
 
 -- the block of a state
 unfoldable pub blockOf : Cpu → List ℕ
 blockOf s =
-    let b0 : List ℕ = storeAt (storeAt (replicate 128 0) 0 1 1) 1 4 123 in
-    let b1 : List ℕ = withLongs (s .r) 0 16 5 b0 in
-    let b2 : List ℕ = storeAt (storeAt b1 pcAt 4 (s .pc)) srAt 2 (s .sr) in
-    let b3 : List ℕ = storeAt (storeAt (storeAt b2 otherAt 4 (s .other)) vbrAt 4 (s .vbr)) cacrAt 4 (s .cacr) in
-    let b4 : List ℕ = storeAt (storeAt b3 macsrAt 4 (s .emac .macsr)) maskAt 4 (s .emac .mask) in
-    storeAt (withAccs s b4) stoppedAt 1 (bit (s .stopped))
+    storeAt (withUnit (s .emac) (withControls s (withLongs (s .r) 0 16 5 headed))) stoppedAt 1 (bit (s .stopped))
 
 -- the reply to a store, and the buffer after it: it needs exactly 128 bytes, whose old contents do not matter
 pub record Stored : Type 0 where
   pub reply : Reply
   pub bytes : List ℕ
 
+abbrev pub stored : Reply → List ℕ → Stored
+stored n b = record { reply = n; bytes = b }
+
 unfoldable pub storeBlock : Cpu → List ℕ → Stored
 storeBlock s b =
     cond (eqb (length b) 128)
-    (cond (admitted s) (record { reply = Done; bytes = blockOf s }) (record { reply = NotAdmitted; bytes = b }))
-    (record { reply = WrongLength; bytes = b })
+    (cond (admitted s) (stored Done (blockOf s)) (stored NotAdmitted b))
+    (stored WrongLength b)

@@ -1,0 +1,12 @@
+-- `block::read::fresh` meets its contract. Assumes nothing.
+use Rattle.manual.specs.Block.{fresh as freshOf}
+use borrow.Author.Needs.{needs}
+use Rattle.block.proofs.read.fresh.Statement.{statement}
+use Rattle.block.proofs.read.fresh.Tie as tie
+
+returns : tie.Need-returns
+unfolding freshOf
+returns c = search needs
+
+pub fresh-spec : {M : Type 1} → statement M
+fresh-spec = tie.close (tie.spec returns)
