@@ -20,7 +20,7 @@ loop-again : tie.Need-loop-again Inv-loop μ-loop
 loop-again c = (
   search needs,
   simp length-set (search needs),
-  filled-next (c .before .before .before .before .before .args .file .now) (c .before .before .loop .mem) _ _ (c .before .loop-test .taken) (c .image-byte .ensures) (c .before .before .loop .inv .2),
+  filled-next (c .before .before .before .before .before .args .file .now) (c .before .before .loop .mem) (c .before .before .loop .at) _ (omega arith) (c .image-byte .ensures) (c .before .before .loop .inv .2),
 )
 
 returns : tie.Need-returns Inv-loop μ-loop
