@@ -11,7 +11,7 @@ use Rattle.manual.specs.declared.Reply.the-variants.{Done, NotAdmitted, 
 use Rattle.manual.specs.Registers.{withAddress, withPc, withSr}
 use Rattle.manual.specs.Memory.{valueAt}
 use Rattle.manual.specs.Admitted.{admitted}
-use Rattle.manual.specs.Reply.{numberOf}
+use Rattle.manual.specs.Reply.{numberOf, isDone}
 use Rattle.manual.specs.Block.{fresh}
 
 -- ---- the file
@@ -19,10 +19,11 @@ use Rattle.manual.specs.Block.{fresh}
 abbrev pub imageMemory : ℕ
 imageMemory = 49152
 
--- the reply to a file: 9 under five bytes, 8, 9 where the length is none or does not match, 2
+-- the state that a file says
 unfoldable pub imageState : List ℕ → Cpu
 imageState f = withSr (valueAt f 13 2) (withPc (valueAt f 5 4) (withAddress 7 (valueAt f 9 4) fresh))
 
+-- the reply to a file: 9 under five bytes, 8, 9 where the length is none or does not match, 2
 unfoldable pub imageReply : List ℕ → Reply
 imageReply f =
     let l : ℕ = valueAt f 1 4 in
@@ -39,6 +40,28 @@ imageBudget f = valueAt f 15 4
 -- the file's bytes at address 0, and zeros up to 49,152
 unfoldable pub imageBytes : List ℕ → List ℕ
 imageBytes f = drop 19 f ++ replicate (imageMemory - (length f - 19)) 0
+
+-- what a read of a file gives: the reply, the budget, the state, and memory after it
+pub record Image : Type 0 where
+  pub reply : Reply
+  pub budget : ℕ
+  pub cpu : Cpu
+  pub memory : List ℕ
+
+abbrev pub image : Reply → ℕ → Cpu → List ℕ → Image
+image n budget s m = record { reply = n; budget = budget; cpu = s; memory = m }
+
+-- refused: no budget, the fresh state, and memory as given
+abbrev pub notLoaded : Reply → List ℕ → Image
+notLoaded n m = image n 0 fresh m
+
+-- a memory of 49,152 bytes takes the file, whatever is in it; any other is refused with 9, whatever the file
+unfoldable pub loadImage : List ℕ → List ℕ → Image
+loadImage f m =
+    let n : Reply = imageReply f in
+    cond (eqb (length m) imageMemory)
+    (cond (isDone n) (image n (imageBudget f) (imageState f) (imageBytes f)) (notLoaded n m))
+    (notLoaded WrongLength m)
 
 -- ---- the text, as bytes
 
@@ -98,3 +121,14 @@ macsrLine s = (109 ∷ 97 ∷ 99 ∷ 115 ∷ 114 ∷ space ∷ []) ++ (hex 8 (s 
 unfoldable pub runText : Reply → ℕ → Cpu → List ℕ
 runText n count s =
     answerLine n ++ (stepsLine count ++ (pcLine s ++ (srLine s ++ (dataLine s ++ (addressLine s ++ (otherLine s ++ macsrLine s))))))
+
+-- a text as it is handed back: 256 bytes, zeros after the text, and its length
+pub record Printed : Type 0 where
+  pub bytes : List ℕ
+  pub len : ℕ
+
+abbrev pub printed : List ℕ → ℕ → Printed
+printed b n = record { bytes = b; len = n }
+
+unfoldable pub textOf : List ℕ → Printed
+textOf t = printed (t ++ replicate (256 - length t) 0) (length t)

@@ -1,0 +1,76 @@
+-- What an accepted file's length is, and the bytes that it puts into memory.
+-- Assumes nothing.
+use Prim.Native.Nat.{ℕ, zero, suc, _+_, _-_, _≤_, _<_}
+use mathlib.Core.Path.{_≡_, refl, sym, _∙_}
+use mathlib.Core.Bool.{Bool, true, false, cond, _&&_}
+use mathlib.Core.List.{List, [], _∷_, _++_}
+use native.Mathlib.Omega.{arith}
+use borrow.Author.Count.{below-more}
+use borrow.Author.Tests.{leb-true, eqb-true, le-ltb, eq-eqb}
+use lib.Dec.{leb, eqb, ltb}
+use lib.ListN.{length, getD, drop, set, replicate, length-append, length-drop, length-replicate}
+use lib.Seq.{getD-drop, getD-set-same, getD-set-other, ext-getD}
+use Rattle.manual.specs.declared.Reply.the-variants.{Done, NotAdmitted, WrongVersion, WrongLength}
+use Rattle.manual.specs.Memory.{valueAt}
+use Rattle.manual.specs.Reply.{isDone}
+use Rattle.manual.specs.Admitted.{admitted}
+use Rattle.manual.specs.Image.{imageState, imageReply, imageBytes}
+use Rattle.memory.specs.MemoryLaws.{value-one}
+
+no {ℓ} : {A : Type ℓ} → false ≡ true → A
+no e = absurd (let z : _≡_ {A = ℕ} 0 1 = cc in omega arith)
+
+passed : (a b c d e g : Bool)
+    → isDone (cond a WrongLength (cond b (cond (c && (d && e)) (cond g Done NotAdmitted) WrongLength) WrongVersion)) ≡ true
+    → (c ≡ true) × (d ≡ true) × (e ≡ true)
+passed true b c d e g h = no h
+passed false false c d e g h = no h
+passed false true false d e g h = no h
+passed false true true false e g h = no h
+passed false true true true false g h = no h
+passed false true true true true g h = (refl, refl, refl)
+
+-- what is left to decide once the first five bytes are read
+pub with-length : (f : List ℕ) (l : ℕ) → 5 ≤ length f → getD f 0 0 ≡ 1 → l ≡ valueAt f 1 4
+    → imageReply f ≡ cond (leb 14 l && (leb l 49166 && eqb (length f) (5 + l))) (cond (admitted (imageState f)) Done NotAdmitted) WrongLength
+unfolding imageReply
+with-length f l h v e = rw (le-ltb _ _ h, value-one, eq-eqb _ _ v, e)
+
+-- a file that is accepted has its 19 first bytes, and no more after them than memory holds
+pub accepted : (f : List ℕ) → isDone (imageReply f) ≡ true → (19 ≤ length f) × (length f ≤ 49171)
+unfolding imageReply
+accepted f h =
+    let l : ℕ = valueAt f 1 4 in
+    let p = passed (ltb (length f) 5) (eqb (valueAt f 0 1) 1) (leb 14 l) (leb l 49166) (eqb (length f) (5 + l)) (admitted (imageState f)) h in (
+      omega (arith, leb-true 14 l (p .0), eqb-true (length f) (5 + l) (p .2)),
+      omega (arith, leb-true l 49166 (p .1), eqb-true (length f) (5 + l) (p .2)),
+    )
+
+-- ---- zeros after a list are what `getD` reads there
+
+zeros-at : (n k : ℕ) → _≡_ {A = ℕ} (getD (replicate n 0) k 0) 0
+zeros-at zero k = refl
+zeros-at (suc n) zero = refl
+zeros-at (suc n) (suc k) = zeros-at n k
+
+padded-at : (l : List ℕ) (n k : ℕ) → getD (l ++ replicate n 0) k 0 ≡ getD l k 0
+padded-at [] n k = zeros-at n k
+padded-at (x ∷ l) n zero = refl
+padded-at (x ∷ l) n (suc k) = padded-at l n k
+
+-- one more byte
+pub filled-next : (f m : List ℕ) (i v : ℕ) → i < length m → v ≡ getD f (19 + i) 0 → ((k : ℕ) → k < i → getD m k 0 ≡ getD f (19 + k) 0)
+    → (k : ℕ) → k < i + 1 → getD (set m i v) k 0 ≡ getD f (19 + k) 0
+filled-next f m i v h e each =
+    below-more _ _
+    (λ k l. getD-set-other m i k v 0 (λ s. omega arith) ∙ each k l)
+    (getD-set-same m i v 0 h ∙ e)
+
+-- memory is the file's bytes as soon as each byte is
+pub all-filled : (f m : List ℕ) → 19 ≤ length f → length f ≤ 49171 → length m ≡ 49152
+    → ((k : ℕ) → k < 49152 → getD m k 0 ≡ getD f (19 + k) 0) → m ≡ imageBytes f
+unfolding imageBytes
+all-filled f m low high size each =
+    ext-getD 0 m _
+    (size ∙ sym (length-append (drop 19 f) (replicate (49152 - (length f - 19)) 0) ∙ rw (length-drop 19 f, length-replicate) (omega arith)))
+    (λ k h. each k (omega arith) ∙ sym (padded-at (drop 19 f) (49152 - (length f - 19)) k ∙ getD-drop 19 f k 0))

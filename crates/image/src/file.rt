@@ -1,0 +1,148 @@
+// An image file, read into a memory and a state.
+use super::Loaded;
+use exceptions::status::admitted;
+use manual::Cpu;
+use manual::Emac;
+use manual::Reply;
+use memory::long_at;
+use word::registers::with_address;
+use word::registers::with_pc;
+use word::registers::with_sr;
+ghost use mathlib.Core.Path.{_≡_};
+ghost use Prim.Native.Nat.{_+_, _*_, _≤_};
+ghost use lib.ListN.{length, getD};
+ghost use Rattle.manual.specs.Memory.{valueAt};
+ghost use Rattle.manual.specs.Reply.{isDone};
+ghost use Rattle.manual.specs.Block.{fresh as freshOf};
+ghost use Rattle.manual.specs.Image.{imageState, imageReply, imageBytes, image, loadImage};
+
+fn fresh() -> Cpu
+    ensures { λ r. ⌜ r ≡ freshOf ⌝ }
+{
+    Cpu {
+        r: [0; 16],
+        pc: 0,
+        sr: 0,
+        other: 0,
+        vbr: 0,
+        cacr: 0,
+        emac: Emac {
+            macsr: 0,
+            mask: 0xFFFF_FFFF,
+            acc: [0; 4],
+        },
+        stopped: false,
+    }
+}
+
+fn status_at(file: &[u8]) -> u16
+    requires { ⌜ 15 ≤ length (now file) ⌝ }
+    ensures { λ r. ⌜ r ≡ valueAt (now (file .entry)) 13 2 ⌝ }
+{
+    file[13] as u16 * 0x100 + file[14] as u16
+}
+
+fn image_state(file: &[u8]) -> Cpu
+    requires { ⌜ 19 ≤ length (now file) ⌝ }
+    ensures { λ r. ⌜ r ≡ imageState (now (file .entry)) ⌝ }
+{
+    let a7 = long_at(file, 9);
+    let pc = long_at(file, 5);
+    let sr = status_at(file);
+    with_sr(with_pc(with_address(fresh(), 7, a7), pc), sr)
+}
+
+fn image_reply(file: &[u8]) -> Reply
+    ensures { λ r. ⌜ r ≡ imageReply (now (file .entry)) ⌝ }
+{
+    if file.len() < 5 {
+        return Reply::WrongLength;
+    }
+    if file[0] != 1 {
+        return Reply::WrongVersion;
+    }
+    let l = long_at(file, 1) as usize;
+    if l < 14 {
+        return Reply::WrongLength;
+    }
+    if 49_166 < l {
+        return Reply::WrongLength;
+    }
+    if file.len() != 5 + l {
+        return Reply::WrongLength;
+    }
+    if admitted(image_state(file)) {
+        return Reply::Done;
+    }
+    Reply::NotAdmitted
+}
+
+// The byte for an address: 0 after the file's end.
+fn image_byte(file: &[u8], at: usize) -> u8
+    requires { ⌜ 19 ≤ length (now file) ⌝ }
+    ensures { λ r. ⌜ r ≡ getD (now (file .entry)) (19 + at) 0 ⌝ }
+{
+    if at < file.len() - 19 {
+        return file[19 + at];
+    }
+    0
+}
+
+fn fill(file: &[u8], mem: &mut [u8])
+    requires { ⌜ (19 ≤ length (now file)) × (length (now file) ≤ 49171) × (length (now mem) ≡ 49152) ⌝ }
+    ensures { λ _. ⌜ now (mem .exit) ≡ imageBytes (now (file .entry)) ⌝ }
+{
+    let mut at: usize = 0;
+    while at < mem.len() {
+        mem[at] = image_byte(file, at);
+        at += 1;
+    }
+}
+
+fn is_done(reply: Reply) -> bool
+    ensures { λ r. ⌜ r ≡ isDone reply ⌝ }
+{
+    match reply {
+        Reply::Done => true,
+        Reply::TooLong => false,
+        Reply::NotAdmitted => false,
+        Reply::Stopped => false,
+        Reply::NotInside => false,
+        Reply::NotCarried => false,
+        Reply::OutOfRange => false,
+        Reply::Masked => false,
+        Reply::WrongVersion => false,
+        Reply::WrongLength => false,
+    }
+}
+
+fn not_loaded(reply: Reply) -> Loaded
+    ensures { λ r. ⌜ (r .reply ≡ reply) × (r .budget ≡ 0) × (r .cpu ≡ freshOf) ⌝ }
+{
+    let cpu = fresh();
+    Loaded {
+        reply: reply,
+        budget: 0,
+        cpu: cpu,
+    }
+}
+
+pub fn read_image(file: &[u8], mem: &mut [u8]) -> Loaded
+    ensures { λ r. ⌜ image (r .reply) (r .budget) (r .cpu) (now (mem .exit)) ≡ loadImage (now (file .entry)) (now (mem .entry)) ⌝ }
+{
+    if mem.len() != 49_152 {
+        return not_loaded(Reply::WrongLength);
+    }
+    let reply = image_reply(file);
+    if !is_done(reply) {
+        return not_loaded(reply);
+    }
+    let budget = long_at(file, 15);
+    let cpu = image_state(file);
+    fill(file, mem);
+    Loaded {
+        reply: reply,
+        budget: budget,
+        cpu: cpu,
+    }
+}
