@@ -1,7 +1,6 @@
--- Bits of the status register as Bools and as numbers, and the one fault. Assumes nothing.
+-- A bit as a number, and the one fault. Assumes nothing.
 use Prim.Native.Nat.{ℕ, zero, suc, _<_}
 use mathlib.Core.Path.{_≡_, refl}
-use mathlib.Core.Bool.{Bool, true, false, not, Bool·beq}
 use native.Mathlib.Omega.{arith}
 use lib.Dec.{eqb}
 use Rattle.manual.specs.declared.Fault.{Fault}
@@ -9,14 +8,6 @@ use Rattle.manual.specs.declared.Fault.the-variants.{Outside}
 use Rattle.manual.specs.declared.Reply.the-variants.{NotInside}
 use Rattle.manual.specs.Word.{bit}
 use Rattle.manual.specs.Reply.{faultReply}
-
-pub unlike-true : (b : Bool) → not b ≡ not (Bool·beq true b)
-unlike-true true = refl
-unlike-true false = refl
-
-pub unlike-false : (b : Bool) → b ≡ not (Bool·beq false b)
-unlike-false true = refl
-unlike-false false = refl
 
 pub one-bit : (x : ℕ) → x < 2 → x ≡ bit (eqb x 1)
 one-bit zero h = refl

@@ -4,14 +4,14 @@ use manual::Emac;
 use manual::Fault;
 use manual::Level;
 use manual::Reply;
+use word::flags::both;
+use word::flags::same;
 use word::registers::address;
 use word::registers::with_address;
 use word::registers::with_other;
 use word::registers::with_sr;
 ghost use mathlib.Core.Path.{_≡_};
-ghost use mathlib.Core.Bool.{not, _&&_, Bool·beq};
 ghost use Prim.Native.Nat.{_+_, _*_, _/_, _%_, _^_};
-ghost use lib.Dec.{eqb};
 ghost use Rattle.manual.specs.Reply.{faultReply};
 ghost use Rattle.manual.specs.Admitted.{status as statusOf, emacAdmitted, admitted as admittedOf};
 ghost use Rattle.manual.specs.Exceptions.{setSr, handling as handlingOf};
@@ -48,25 +48,13 @@ pub fn admitted(cpu: Cpu) -> bool
     (kept == cpu.sr) & emac_admitted(e)
 }
 
-// Whether A7 and the other stack pointer change places: there are two, and S changes.
-fn swaps(two: bool, new: bool, old: bool) -> bool
-    ensures { λ r. ⌜ r ≡ (two && not (Bool·beq new old)) ⌝ }
-{
-    if two {
-        return if new { !old } else { old };
-    }
-    false
-}
-
 pub fn with_status(cpu: Cpu, v: u32) -> Cpu
     ensures { λ s. ⌜ s ≡ setSr v cpu ⌝ }
 {
     let sr = status(v);
-    if swaps(
-        cpu.cacr / 0x20 % 2 == 1,
-        sr / 0x2000 % 2 == 1,
-        cpu.sr / 0x2000 % 2 == 1,
-    ) {
+    let two = cpu.cacr / 0x20 % 2 == 1;
+    let kept = same(sr / 0x2000 % 2 == 1, cpu.sr / 0x2000 % 2 == 1);
+    if both(two, !kept) {
         let g = cpu.r;
         let sp = address(&g, 7);
         return with_sr(with_other(with_address(cpu, 7, cpu.other), sp), sr);
