@@ -1,0 +1,3 @@
+pub mod EntryLaws
+pub mod StepLaws
+pub mod Undone
