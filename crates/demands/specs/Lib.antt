@@ -1,3 +1,5 @@
 pub mod EntryLaws
 pub mod StepLaws
 pub mod Undone
+pub mod ValueLaws
+pub mod Nesting

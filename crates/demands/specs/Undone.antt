@@ -6,7 +6,7 @@
 -- The entries are the calls `exception`, at every level, and `interrupt`, and the word TRAP as a step; the returns are the call
 -- `rte` and the word RTE as a step. Assumes nothing.
 use Prim.Native.Nat.{ℕ, _+_, _/_, _%_, _^_, _≤_, _<_}
-use mathlib.Core.Path.{_≡_, refl, ap, _∙_}
+use mathlib.Core.Path.{_≡_, refl, sym, ap, _∙_}
 use mathlib.Core.Bool.{Bool, true, false, cond}
 use mathlib.Core.List.{List}
 use native.Mathlib.Omega.{arith}
@@ -15,14 +15,14 @@ use lib.ListN.{length, getD, length-set}
 use Rattle.manual.specs.declared.Cpu.{Cpu}
 use Rattle.manual.specs.declared.Level.{Level}
 use Rattle.manual.specs.declared.Level.the-variants.{Kept, To}
-use Rattle.manual.specs.declared.Size.the-variants.{Word}
+use Rattle.manual.specs.declared.Size.the-variants.{Word, Long}
 use Rattle.manual.specs.declared.Reply.the-variants.{Done, OutOfRange, Masked}
 use Rattle.manual.specs.Word.{plus}
 use Rattle.manual.specs.Registers.{addressOf, withAddress, withPc, withStopped}
 use Rattle.manual.specs.Memory.{inside, numberAt, valueAt, storeAt}
 use Rattle.manual.specs.Reply.{Outcome, completed, unchanged}
 use Rattle.manual.specs.Admitted.{status, admitted, tooLong}
-use Rattle.manual.specs.Differences.{frameBytes}
+use Rattle.manual.specs.Differences.{frameBytes, vectorPlace}
 use Rattle.manual.specs.Exceptions.{supervisor, twoStacks, setSr, handling, frameLong, pcPlace, framePlace, framed, handlerState, entered, returned, left, levelTaken, masked, exception, interrupt, rte}
 use Rattle.instructions.specs.Step.{step}
 use Rattle.word.specs.WordLaws.{plus-below}
@@ -83,23 +83,23 @@ EntryIsUndone =
 -- ---- every entry is `entered`, and every return is `left`, of the state with some program counter
 
 pub record Way (s : Cpu) (m : List ℕ) (pc : ℕ) (entry : Outcome) : Type 0 where
-  pub given : Cpu
   pub at : ℕ
+  pub at-long : at < 2 ^ 32
   pub level : Level
   pub vector : ℕ
   pub short : tooLong m ≡ false
   pub taken : admitted s ≡ true
   pub small : vector < 256
   pub fits : pc < 2 ^ 32
-  pub is : entry ≡ entered given (withPc at s) level vector pc m
+  pub is : entry ≡ entered s (withPc at s) level vector pc m
 
 pub way : (s : Cpu) (m : List ℕ) (pc : ℕ) (entry : Outcome) → Values s m → Enters s m pc entry → entry .stepped .reply ≡ Done → Way s m pc entry
 unfolding exception interrupt
 way s m pc entry typed (by-exception vector at level v p) e =
     let w : laws.Open s m (cond (levelTaken level) (entered s s level vector pc m) (unchanged s OutOfRange m)) (exception s m vector pc level) = laws.opened s m _ e in
     record {
-      given = s;
       at = s .pc;
+      at-long = typed .pc-long;
       level = level;
       vector = vector;
       short = w .short;
@@ -114,8 +114,8 @@ way s m pc entry typed (by-interrupt vector level v) e =
     let w : laws.Open s m (cond (ltb level 8) k (unchanged s OutOfRange m)) (interrupt s m vector level) = laws.opened s m _ e in
     let one : cond (ltb level 8) k (unchanged s OutOfRange m) ≡ k = laws.passed (ltb level 8) OutOfRange laws.out-of-range-not s m k (rw (w .same) at e) in
     record {
-      given = s;
       at = s .pc;
+      at-long = typed .pc-long;
       level = To level;
       vector = vector;
       short = w .short;
@@ -127,8 +127,8 @@ way s m pc entry typed (by-interrupt vector level v) e =
 way s m pc entry typed (by-trap n h w) e =
     let d : steps.Stepped s m = steps.stepped s m e in
     record {
-      given = s;
       at = plus (s .pc) 2;
+      at-long = plus-below (s .pc) 2;
       level = Kept;
       vector = 32 + n;
       short = d .short;
@@ -139,15 +139,17 @@ way s m pc entry typed (by-trap n h w) e =
     }
 
 pub record WayBack (s : Cpu) (m : List ℕ) (answer : Outcome) : Type 0 where
-  pub given : Cpu
   pub at : ℕ
-  pub is : answer ≡ left given (withPc at s) m
+  pub at-long : at < 2 ^ 32
+  pub is : answer ≡ left s (withPc at s) m
 
-pub way-back : (s : Cpu) (m : List ℕ) (answer : Outcome) → tooLong m ≡ false → admitted s ≡ true → supervisor (s .sr) ≡ true → Returns s m answer → WayBack s m answer
+pub way-back : (s : Cpu) (m : List ℕ) (answer : Outcome) → Values s m → tooLong m ≡ false → admitted s ≡ true → supervisor (s .sr) ≡ true
+    → Returns s m answer → WayBack s m answer
 unfolding rte
-way-back s m answer short taken h by-rte = record { given = s; at = s .pc; is = rw (steps.same-pc s) (laws.goes-on s m _ short taken) }
-way-back s m answer short taken h (by-word awake i w) =
-    record { given = s; at = plus (s .pc) 2; is = steps.step-rte s m short taken awake i w h }
+way-back s m answer typed short taken h by-rte =
+    record { at = s .pc; at-long = typed .pc-long; is = rw (steps.same-pc s) (laws.goes-on s m _ short taken) }
+way-back s m answer typed short taken h (by-word awake i w) =
+    record { at = plus (s .pc) 2; at-long = plus-below (s .pc) 2; is = steps.step-rte s m short taken awake i w h }
 
 -- ---- what an entry leaves: b says whether the pointers change places, sp is then A7
 
@@ -163,6 +165,8 @@ turned s level = laws.after (swapsIn s level) (status (handling level (s .sr))) 
 
 pub record Left (s : Cpu) (m : List ℕ) (at pc : ℕ) (level : Level) (vector : ℕ) (s₁ : Cpu) (m₁ : List ℕ) : Type 0 where
   pub handler : ℕ
+  pub place : ℕ
+  pub handler-is : handler ≡ numberAt m₁ place Long
   pub state-is : s₁ ≡ handlerState (turned (withPc at s) level) (framePlace (spIn s level)) handler
   pub memory-is : m₁ ≡ framed m (spIn s level) vector (s .sr) pc
   pub hi : pcPlace (spIn s level) + 4 ≤ length m
@@ -181,6 +185,8 @@ entry-left given s at level vector pc m n e =
     let ep : sp ≡ spIn s level = ap (λ (x : Cpu). addressOf (x .r) 7) es ∙ laws.a7-after (status v) t (swapsIn s level) n in
     record {
       handler = laws.handlerAt t m vector pc sp;
+      place = vectorPlace (s .vbr) vector;
+      handler-is = ap (λ (x : List ℕ). numberAt x (vectorPlace (s .vbr) vector) Long) (sym (w .memory));
       state-is = w .state ∙ ap (λ (x : Cpu). handlerState x (framePlace sp) (laws.handlerAt t m vector pc sp)) es
           ∙ ap (λ (x : ℕ). handlerState (turned t level) (framePlace x) (laws.handlerAt t m vector pc sp)) ep;
       memory-is = w .memory ∙ ap (λ (x : ℕ). framed m x vector (s .sr) pc) ep;
@@ -191,7 +197,7 @@ entry-left given s at level vector pc m n e =
 pub way-left : (s : Cpu) (m : List ℕ) (pc : ℕ) (entry : Outcome) → length (s .r) ≡ 16 → (w : Way s m pc entry) → entry .stepped .reply ≡ Done
     → Left s m (w .at) pc (w .level) (w .vector) (entry .stepped .cpu) (entry .memory)
 way-left s m pc entry n w e =
-    rw (w .is) (entry-left (w .given) s (w .at) (w .level) (w .vector) pc m n (rw (w .is) at e))
+    rw (w .is) (entry-left s s (w .at) (w .level) (w .vector) pc m n (rw (w .is) at e))
 
 -- the named things of it
 pub record Named (s : Cpu) (level : Level) (s₁ : Cpu) : Type 0 where
@@ -291,9 +297,9 @@ entry-is-undone s m pc entry typed enters e s₂ m₂ answer typed₂ taken₂ k
     let n₂ : length (s₂ .r) ≡ 16 = typed₂ .sixteen in
     let short₂ : tooLong m₂ ≡ false = rw (as-long s m (w .at) pc (w .level) (w .vector) typed q (w .small) (w .fits) _ _ l s₂ m₂ n₂ kept) (w .short) in
     let n : Named s (w .level) (entry .stepped .cpu) = named s m (w .at) pc (w .level) (w .vector) _ _ (typed .sixteen) l in
-    let r : WayBack s₂ m₂ answer = way-back s₂ m₂ answer short₂ taken₂ (kept .same-s ∙ n .in-s) returns in
+    let r : WayBack s₂ m₂ answer = way-back s₂ m₂ answer typed₂ short₂ taken₂ (kept .same-s ∙ n .in-s) returns in
     let b : answer ≡ completed (undoneState s (w .level) (r .at) pc s₂) 0 m₂ =
-    r .is ∙ left-undone s m (w .at) pc (w .level) (w .vector) typed q (w .small) (w .fits) _ _ l s₂ m₂ n₂ kept (r .given) (r .at)
+    r .is ∙ left-undone s m (w .at) pc (w .level) (w .vector) typed q (w .small) (w .fits) _ _ l s₂ m₂ n₂ kept s₂ (r .at)
     in
     record {
       done = ap (λ (x : Outcome). x .stepped .reply) b;
