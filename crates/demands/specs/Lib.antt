@@ -3,3 +3,5 @@ pub mod StepLaws
 pub mod Undone
 pub mod ValueLaws
 pub mod Nesting
+pub mod Refusals
+pub mod Runs
