@@ -5,3 +5,6 @@ pub mod ValueLaws
 pub mod Nesting
 pub mod Refusals
 pub mod Runs
+pub mod BodyLaws
+pub mod ReplyLaws
+pub mod Exact
