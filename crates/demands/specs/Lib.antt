@@ -8,3 +8,4 @@ pub mod Runs
 pub mod BodyLaws
 pub mod ReplyLaws
 pub mod Exact
+pub mod Handmade
