@@ -9,3 +9,4 @@ pub mod BodyLaws
 pub mod ReplyLaws
 pub mod Exact
 pub mod Handmade
+pub mod Followed
