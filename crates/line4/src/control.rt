@@ -147,18 +147,18 @@ pub fn unlk(g: &[u32; 16], at: u32, sr: u16, mem: &[u8], op: u32) -> Change
     done(next, codes, top, write_address(op, v))
 }
 
-fn many(to_memory: bool, mask: u32, a: u32) -> Action
-    ensures { λ r. ⌜ r ≡ manyOf to_memory mask a ⌝ }
+fn many(storing: bool, mask: u32, a: u32) -> Action
+    ensures { λ r. ⌜ r ≡ manyOf storing mask a ⌝ }
 {
-    if to_memory {
+    if storing {
         Action::StoreMany(mask, a)
     } else {
         Action::LoadMany(mask, a)
     }
 }
 
-pub fn movem(to_memory: bool, g: &[u32; 16], at: u32, sr: u16, mem: &[u8], op: u32) -> Change
-    ensures { λ e. ⌜ e ≡ moveMany to_memory (now (g .entry)) at sr (now (mem .entry)) op ⌝ }
+pub fn movem(storing: bool, g: &[u32; 16], at: u32, sr: u16, mem: &[u8], op: u32) -> Change
+    ensures { λ e. ⌜ e ≡ moveMany storing (now (g .entry)) at sr (now (mem .entry)) op ⌝ }
 {
     let pc = plus(at, 2);
     let a = address(g, op);
@@ -168,14 +168,14 @@ pub fn movem(to_memory: bool, g: &[u32; 16], at: u32, sr: u16, mem: &[u8], op: u
     };
     let none = no_write();
     if op / 8 % 8 == 2 {
-        acting(sr, plus(pc, 2), none, many(to_memory, mask, a))
+        acting(sr, plus(pc, 2), none, many(storing, mask, a))
     } else if op / 8 % 8 == 5 {
         let d = match load(mem, plus(pc, 2), Size::Word) {
             Got::Value(d) => d,
             Got::Fault(x) => return refused(x),
         };
         let from = plus(a, sign_extended(Size::Word, d));
-        acting(sr, plus(pc, 4), none, many(to_memory, mask, from))
+        acting(sr, plus(pc, 4), none, many(storing, mask, from))
     } else {
         illegal(at, sr)
     }

@@ -14,5 +14,6 @@ pub mod Divide
 pub mod Emac
 pub mod Admitted
 pub mod Exceptions
+pub mod EmacCalls
 pub mod Block
 pub mod Image

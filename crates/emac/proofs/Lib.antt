@@ -1,0 +1,2 @@
+mod MoveLaws
+mod ReadLaws

@@ -1,0 +1,88 @@
+-- What each way of `mac_read` and its parts is, in plain numbers. Assumes nothing.
+use mathlib.Core.Path.{_≡_}
+use mathlib.Core.Bool.{Bool, true, false, not, _&&_, _||_}
+use Prim.Native.Nat.{ℕ, _+_, _-_, _/_, _%_, _^_}
+use native.Mathlib.Omega.{arith}
+use lib.Dec.{ltb, leb}
+use lib.IntN.{ℤ}
+use Rattle.manual.specs.declared.Mode.{Mode}
+use Rattle.manual.specs.Emac.{roundsUp, nearest, rounded, readWith}
+use Rattle.word.specs.RaisedLaws.{Up, higher, up-negative, out-half}
+use Rattle.emac.specs.Parts.{IsRounded, IsClamped}
+use Rattle.emac.specs.NumberLaws.{floor24, mod24, odd24, floor8, mod8, odd8, mod16, mod32, round-up, round-down}
+
+module _ (r : ℕ) where
+  pub up24 : roundsUp (2 ^ 24) (r % 2 ^ 24) (r / 2 ^ 24 % 2) ≡ true → IsRounded true (2 ^ 24) r (r / 2 ^ 24 + 1 + 0xF_FFFF_F000_0000)
+  up24 t =
+      record {
+        value = λ z u. higher (2 ^ 28) (2 ^ 52) (nearest z (2 ^ 24)) (r / 2 ^ 24 + 1) (omega arith)
+            (round-up true (2 ^ 24) (2 ^ 28) r z (floor24 z r u) (mod24 z r u) (odd24 z r u) t);
+      }
+
+  pub down24 : roundsUp (2 ^ 24) (r % 2 ^ 24) (r / 2 ^ 24 % 2) ≡ false → IsRounded true (2 ^ 24) r (r / 2 ^ 24 + 0xF_FFFF_F000_0000)
+  down24 t =
+      record {
+        value = λ z u. higher (2 ^ 28) (2 ^ 52) (nearest z (2 ^ 24)) (r / 2 ^ 24) (omega arith)
+            (round-down true (2 ^ 24) (2 ^ 28) r z (floor24 z r u) (mod24 z r u) (odd24 z r u) t);
+      }
+
+  module _ (rt : Bool) where
+    pub up8 : (rt && roundsUp (2 ^ 8) (r % 2 ^ 8) (r / 2 ^ 8 % 2)) ≡ true → IsRounded rt (2 ^ 8) r (r / 2 ^ 8 + 1 + 0xF_F000_0000_0000)
+    up8 t =
+        record {
+          value = λ z u. higher (2 ^ 44) (2 ^ 52) (rounded rt z (2 ^ 8)) (r / 2 ^ 8 + 1) (omega arith)
+              (round-up rt (2 ^ 8) (2 ^ 44) r z (floor8 z r u) (mod8 z r u) (odd8 z r u) t);
+        }
+
+    pub down8 : (rt && roundsUp (2 ^ 8) (r % 2 ^ 8) (r / 2 ^ 8 % 2)) ≡ false → IsRounded rt (2 ^ 8) r (r / 2 ^ 8 + 0xF_F000_0000_0000)
+    down8 t =
+        record {
+          value = λ z u. higher (2 ^ 44) (2 ^ 52) (rounded rt z (2 ^ 8)) (r / 2 ^ 8) (omega arith)
+              (round-down rt (2 ^ 8) (2 ^ 44) r z (floor8 z r u) (mod8 z r u) (odd8 z r u) t);
+        }
+
+module _ (omc below : Bool) (q : ℕ) where
+  abbrev pub out15 : Bool
+  out15 = ltb q 0xF_FFFF_FFFF_8000 || leb 0x10_0000_0000_8000 q
+
+  pub clamp15-neg : (omc && out15) ≡ true → below ≡ true → IsClamped omc below (2 ^ 15) q 0x8000
+  clamp15-neg e n = record { value = λ z u. rw (out-half (2 ^ 52) (2 ^ 15) z q (omega arith) u, e, n) }
+
+  pub clamp15-pos : (omc && out15) ≡ true → below ≡ false → IsClamped omc below (2 ^ 15) q 0x7FFF
+  clamp15-pos e n = record { value = λ z u. rw (out-half (2 ^ 52) (2 ^ 15) z q (omega arith) u, e, n) }
+
+  pub clamp15-in : (omc && out15) ≡ false → IsClamped omc below (2 ^ 15) q (q % 0x1_0000)
+  clamp15-in e = record { value = λ z u. rw (out-half (2 ^ 52) (2 ^ 15) z q (omega arith) u, e, mod16 z q u) }
+
+  abbrev pub out31 : Bool
+  out31 = ltb q 0xF_FFFF_8000_0000 || leb 0x10_0000_8000_0000 q
+
+  pub clamp31-neg : (omc && out31) ≡ true → below ≡ true → IsClamped omc below (2 ^ 31) q 0x8000_0000
+  clamp31-neg e n = record { value = λ z u. rw (out-half (2 ^ 52) (2 ^ 31) z q (omega arith) u, e, n) }
+
+  pub clamp31-pos : (omc && out31) ≡ true → below ≡ false → IsClamped omc below (2 ^ 31) q 0x7FFF_FFFF
+  clamp31-pos e n = record { value = λ z u. rw (out-half (2 ^ 52) (2 ^ 31) z q (omega arith) u, e, n) }
+
+  pub clamp31-in : (omc && out31) ≡ false → IsClamped omc below (2 ^ 31) q (q % 0x1_0000_0000)
+  clamp31-in e = record { value = λ z u. rw (out-half (2 ^ 52) (2 ^ 31) z q (omega arith) u, e, mod32 z q u) }
+
+-- ---- by the modes; r is z raised
+
+module _ (k : Mode) (a r v : ℕ) (z : ℤ) (u : Up (2 ^ 52) z r) where
+  pub word : k .fi ≡ true → k .su ≡ true → (q : ℕ) → IsRounded true (2 ^ 24) r q → IsClamped (k .omc) (ltb r 0x10_0000_0000_0000) (2 ^ 15) q v
+      → v ≡ readWith k a z
+  word f s q hq hv = rw (f, s, up-negative (2 ^ 52) z r u) (hv .value (nearest z (2 ^ 24)) (hq .value z u))
+
+  pub long : k .fi ≡ true → k .su ≡ false → (q : ℕ) → IsRounded (k .rt) (2 ^ 8) r q → IsClamped (k .omc) (ltb r 0x10_0000_0000_0000) (2 ^ 31) q v
+      → v ≡ readWith k a z
+  long f s q hq hv = rw (f, s, up-negative (2 ^ 52) z r u) (hv .value (rounded (k .rt) z (2 ^ 8)) (hq .value z u))
+
+  pub integer : k .fi ≡ false → k .su ≡ false → IsClamped (k .omc) (ltb r 0x10_0000_0000_0000) (2 ^ 31) r v → v ≡ readWith k a z
+  integer f s hv = rw (f, s, up-negative (2 ^ 52) z r u) (hv .value z u)
+
+module _ (k : Mode) (a : ℕ) (z : ℤ) (f : k .fi ≡ false) (s : k .su ≡ true) where
+  pub too-large : (k .omc && not (ltb a 0x1_0000_0000)) ≡ true → 0xFFFF_FFFF ≡ readWith k a z
+  too-large e = rw (f, s, e)
+
+  pub as-it-is : (k .omc && not (ltb a 0x1_0000_0000)) ≡ false → a % 0x1_0000_0000 ≡ readWith k a z
+  as-it-is e = rw (f, s, e)

@@ -1,0 +1,20 @@
+use Rattle.emac.specs.MacLaws.{settled-is}
+use borrow.Author.Needs.{needs}
+use Rattle.emac.proofs.mac.settled.Statement.{statement}
+use Rattle.emac.proofs.mac.settled.Tie as tie
+
+returns : tie.Need-returns
+returns c =
+    let c1 = c .before in let c2 = c1 .before in let c3 = c2 .before in let c4 = c3 .before in let x = c4 .before .args in
+    settled-is (x .k) (x .e) (x .i) (x .s) (x .over) _ _ _ _ _ (c4 .outside .ensures) (c3 .stored .ensures) (c2 .pav .ensures) (c1 .flagged .ensures) (c .with-acc .ensures)
+
+pub settled-spec : {M : Type 1} → statement M
+settled-spec =
+    tie.close
+    (tie.spec
+    (λ c κs. search needs)
+    (λ c κs. search needs)
+    (λ c κs. search needs)
+    (λ c κs. search needs)
+    (λ c κs. search needs)
+    returns)

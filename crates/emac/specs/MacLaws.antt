@@ -1,0 +1,80 @@
+-- An accumulator's number, a sum, and what is stored of it: what each way of the code is, in plain numbers. Assumes nothing.
+use mathlib.Core.Path.{_≡_, refl, sym}
+use mathlib.Core.Bool.{Bool, true, false, _&&_, _||_}
+use Prim.Native.Nat.{ℕ, _+_, _-_, _%_, _^_, _≤_, _<_}
+use native.Mathlib.Omega.{arith}
+use lib.Dec.{ltb, leb}
+use Rattle.manual.specs.declared.Mode.{Mode}
+use Rattle.manual.specs.declared.Emac.{Emac}
+use Rattle.manual.specs.Word.{modZ}
+use Rattle.manual.specs.Emac.{modeOf, pav, productOf, productOver, scaled, scaleOf, valueOf, unsigned, limit, sumOf, accOf, withAcc, flagged, settled, accumulate}
+use Rattle.word.specs.RaisedLaws.{Up, plus, minus, up-negative, out-half, out-whole, signed-up}
+use Rattle.emac.specs.Parts.{IsNumber, IsScaled, IsValue, IsSum, IsOutside, IsStored, IsSettled}
+use Rattle.emac.specs.NumberLaws.{mod48}
+use Rattle.emac.specs.declared.product.Raised.{Raised}
+
+module _ (k : Mode) (a : ℕ) (h : a < 2 ^ 48) where
+  pub value-unsigned : unsigned k ≡ true → IsValue k a (a + 0x10_0000_0000_0000)
+  value-unsigned e = record { value = rw e (omega arith); low = omega arith; high = omega arith }
+
+  pub value-low : unsigned k ≡ false → a < 2 ^ 47 → IsValue k a (a + 0x10_0000_0000_0000)
+  value-low e l =
+      record {
+        value = rw e (signed-up (2 ^ 52) (2 ^ 47) a (a + 2 ^ 52) (λ _. omega arith) (λ g. omega arith) (omega arith));
+        low = omega arith;
+        high = omega arith;
+      }
+
+  pub value-high : unsigned k ≡ false → 2 ^ 47 ≤ a → IsValue k a (a + 0xF_0000_0000_0000)
+  value-high e l =
+      record {
+        value = rw e (signed-up (2 ^ 52) (2 ^ 47) a (a + 0xF_0000_0000_0000) (λ g. omega arith) (λ _. omega arith) (omega arith));
+        low = omega arith;
+        high = omega arith;
+      }
+
+module _ (sub : Bool) (c v : ℕ) where
+  pub difference : sub ≡ true → v ≤ c + 2 ^ 52 → IsSum sub c v (c + 0x10_0000_0000_0000 - v)
+  difference e h = record { value = λ z w f g. rw e (minus (2 ^ 52) z w c v f g h) }
+
+  pub total : sub ≡ false → 2 ^ 52 ≤ c + v → IsSum sub c v (c + v - 0x10_0000_0000_0000)
+  total e h = record { value = λ z w f g. rw e (plus (2 ^ 52) z w c v f g h) }
+
+module _ (k : Mode) (s : ℕ) where
+  pub outside-unsigned : unsigned k ≡ true → IsOutside k s (ltb s 0x10_0000_0000_0000 || leb 0x11_0000_0000_0000 s)
+  outside-unsigned e = record { value = λ z u. rw e (sym (out-whole (2 ^ 52) (2 ^ 48) z s u)) }
+
+  pub outside-signed : unsigned k ≡ false → IsOutside k s (ltb s 0xF_8000_0000_0000 || leb 0x10_8000_0000_0000 s)
+  outside-signed e = record { value = λ z u. rw e (sym (out-half (2 ^ 52) (2 ^ 47) z s (omega arith) u)) }
+
+  module _ (out : Bool) where
+    pub at-limit : (v : ℕ) → (out && k .omc) ≡ true → v ≡ modZ (limit k (ltb s 0x10_0000_0000_0000)) (2 ^ 48) → IsStored k out s v
+    at-limit v e q = record { value = λ z u. rw (e, up-negative (2 ^ 52) z s u) q }
+
+    pub as-it-is : (out && k .omc) ≡ false → IsStored k out s (s % 0x1_0000_0000_0000)
+    as-it-is e = record { value = λ z u. rw (e, mod48 z s u) refl }
+
+-- ---- the parts put together: o, a, p, f and r are what the code finds
+
+pub settled-is : (k : Mode) (e : Emac) (i s : ℕ) (over o : Bool) (a : ℕ) (p : Bool) (f : ℕ) (r : Emac)
+    → IsOutside k s o → IsStored k (over || o) s a → p ≡ pav (e .macsr) i → f ≡ flagged k (e .macsr) i ((over || o) || p) a
+    → r ≡ withAcc i f a e → IsSettled k e i over s r
+unfolding settled
+settled-is k e i s over o a p f r ho ha ep ef er = record { value = λ z u. rw (er, ef, ep, ha .value z u, ho .value z u) }
+
+module _ (e : Emac) (i s : ℕ) (sub : Bool) (x y : ℕ) (k : Mode) (h : Bool) (ek : k ≡ modeOf (e .macsr)) (eh : h ≡ pav (e .macsr) i) where
+  pub stays : (k .omc && h) ≡ true → e ≡ accumulate e i s sub x y
+  unfolding accumulate
+  stays t = rw (← ek, ← eh, t)
+
+  module _ (t : (k .omc && h) ≡ false) (w : ℕ) (p : Raised) (v a c q : ℕ) (r : Emac)
+      (hp : IsNumber (productOf k x y) (productOver k x y) p) (ew : w ≡ scaleOf k s) (hv : IsScaled w (p .value) v)
+      (ea : a ≡ accOf e i) (hc : IsValue k a c) (hq : IsSum sub c v q) (hr : IsSettled k e i (p .over) q r) where
+    scaled-up : Up (2 ^ 52) (scaled (scaleOf k s) (productOf k x y)) v
+    scaled-up = rw (← ew) (hv .value (productOf k x y) (hp .value))
+
+    pub accumulates : r ≡ accumulate e i s sub x y
+    unfolding accumulate
+    accumulates =
+        rw (← ek, ← eh, t, ← ea, ← hp .over)
+        (hr .value (sumOf k s sub x y a) (hq .value (valueOf k a) (scaled (scaleOf k s) (productOf k x y)) (hc .value) scaled-up))

@@ -1,0 +1,8 @@
+// The multiply-accumulate unit, by value.
+pub mod accumulators;
+pub mod block;
+pub mod calls;
+pub mod flags;
+pub mod mac;
+pub mod product;
+pub mod read;

@@ -1,0 +1,108 @@
+// MAC and MSAC: a product is added to an accumulator or taken from it. Numbers are raised by 2^52.
+use super::accumulators::acc_of;
+use super::accumulators::with_acc;
+use super::flags::flagged;
+use super::flags::mode_of;
+use super::flags::pav;
+use super::product::mac_product;
+use super::product::scale_of;
+use super::product::scaled;
+use manual::Emac;
+use manual::Mode;
+ghost use mathlib.Core.Path.{_≡_};
+ghost use mathlib.Core.Bool.{true};
+ghost use Prim.Native.Nat.{_+_, _-_, _^_, _<_, _≤_};
+ghost use Rattle.manual.specs.Word.{modZ};
+ghost use Rattle.manual.specs.Emac.{limit as limitOf, accumulate as accumulateOf};
+ghost use Rattle.manual.specs.Admitted.{emacAdmitted};
+ghost use Rattle.emac.specs.Parts.{IsValue, IsSum, IsOutside, IsStored, IsSettled};
+
+// The number of a pattern.
+pub(crate) fn value_of(k: Mode, a: u64) -> u64
+    requires { ⌜ a < 2 ^ 48 ⌝ }
+    ensures { λ r. ⌜ IsValue k a r ⌝ }
+{
+    if !k.fi & k.su {
+        return a + 0x10_0000_0000_0000;
+    }
+    if a < 0x8000_0000_0000 {
+        return a + 0x10_0000_0000_0000;
+    }
+    a + 0xF_0000_0000_0000
+}
+
+// The sum or difference.
+fn sum(sub: bool, c: u64, v: u64) -> u64
+    requires { ⌜ (2 ^ 52 ≤ c + v) × (v ≤ c + 2 ^ 52) × (c ≤ 2 ^ 53) × (v ≤ 2 ^ 53) ⌝ }
+    ensures { λ r. ⌜ IsSum sub c v r ⌝ }
+{
+    if sub {
+        return c + 0x10_0000_0000_0000 - v;
+    }
+    c + v - 0x10_0000_0000_0000
+}
+
+fn outside(k: Mode, s: u64) -> bool
+    ensures { λ r. ⌜ IsOutside k s r ⌝ }
+{
+    if !k.fi & k.su {
+        return (s < 0x10_0000_0000_0000) | (s >= 0x11_0000_0000_0000);
+    }
+    (s < 0xF_8000_0000_0000) | (s >= 0x10_8000_0000_0000)
+}
+
+// The pattern of the largest and smallest number of ACCn.
+fn limit(k: Mode, below: bool) -> u64
+    ensures { λ r. ⌜ r ≡ modZ (limitOf k below) (2 ^ 48) ⌝ }
+{
+    if k.fi {
+        if below {
+            0xFF80_0000_0000
+        } else {
+            0x7F_FFFF_FF00
+        }
+    } else {
+        if k.su {
+            if below { 0 } else { 0xFFFF_FFFF_FFFF }
+        } else {
+            if below { 0xFFFF_8000_0000 } else { 0x7FFF_FFFF }
+        }
+    }
+}
+
+// The pattern that is stored of a sum.
+fn stored(k: Mode, out: bool, s: u64) -> u64
+    ensures { λ r. ⌜ IsStored k out s r ⌝ }
+{
+    if out & k.omc {
+        return limit(k, s < 0x10_0000_0000_0000);
+    }
+    s % 0x1_0000_0000_0000
+}
+
+fn settled(k: Mode, e: Emac, i: u32, over: bool, s: u64) -> Emac
+    ensures { λ r. ⌜ IsSettled k e i over s r ⌝ }
+{
+    let m = e.macsr;
+    let out = over | outside(k, s);
+    let a = stored(k, out, s);
+    let f = flagged(k, m, i, out | pav(m, i), a);
+    with_acc(e, i, f, a)
+}
+
+// MAC, and MSAC where `sub`: x times y, scaled, to accumulator i.
+pub fn accumulate(e: Emac, i: u32, scale: u32, sub: bool, x: u32, y: u32) -> Emac
+    requires { ⌜ emacAdmitted e ≡ true ⌝ }
+    ensures { λ r. ⌜ r ≡ accumulateOf e i scale sub x y ⌝ }
+{
+    let m = e.macsr;
+    let k = mode_of(m);
+    let overflowed = pav(m, i);
+    if k.omc & overflowed {
+        return e;
+    }
+    let p = mac_product(k, x, y);
+    let v = scaled(scale_of(k, scale), p.value);
+    let c = value_of(k, acc_of(e, i));
+    settled(k, e, i, p.over, sum(sub, c, v))
+}

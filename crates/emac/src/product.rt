@@ -1,0 +1,151 @@
+// The product of two longs, and the scale factor. A signed number z is computed as z + 2^52, which is not negative.
+use manual::Mode;
+ghost use mathlib.Core.Path.{_≡_};
+ghost use mathlib.Core.Bool.{true, false, not};
+ghost use Prim.Native.Nat.{_+_, _-_, _*_, _%_, _^_, _<_, _≤_};
+ghost use lib.Dec.{leb};
+ghost use lib.IntN.{pos, _*ℤ_};
+ghost use Rattle.manual.specs.declared.Size.the-variants.{Long};
+ghost use Rattle.manual.specs.Word.{signed, inHalf};
+ghost use Rattle.manual.specs.Emac.{roundsUp, fraction as fractionOf, signedProduct, unsignedProduct, productOf, productOver, scaleOf};
+ghost use Rattle.word.specs.RaisedLaws.{Up};
+ghost use Rattle.emac.specs.Parts.{IsFraction, IsNumber, IsScaled};
+
+// A number raised by 2^52, and whether it overflowed.
+pub(crate) struct Raised {
+    pub(crate) value: u64,
+    pub(crate) over: bool,
+}
+
+// Whether what is left over below a quotient rounds it up.
+pub(crate) fn rounds_up(m: u64, rest: u64, quotient: u64) -> bool
+    requires { ⌜ rest < 2 ^ 63 ⌝ }
+    ensures { λ r. ⌜ r ≡ roundsUp m rest (quotient % 2) ⌝ }
+{
+    (rest * 2 > m) | ((rest * 2 == m) & (quotient % 2 == 1))
+}
+
+fn mul31(a: u64, b: u64) -> u64
+    requires { ⌜ (a ≤ 2 ^ 31) × (b ≤ 2 ^ 31) ⌝ }
+    ensures { λ r. ⌜ (r ≡ a * b) × (r ≤ 2 ^ 62) ⌝ }
+{
+    a * b
+}
+
+// The signed product, raised by 2^62.
+fn product(x: u32, y: u32) -> u64
+    ensures { λ r. ⌜ Up (2 ^ 62) (signed Long x *ℤ signed Long y) r × (r ≤ 2 ^ 63) ⌝ }
+{
+    let a = x as u64;
+    let b = y as u64;
+    if a < 0x8000_0000 {
+        if b < 0x8000_0000 {
+            0x4000_0000_0000_0000 + mul31(a, b)
+        } else {
+            0x4000_0000_0000_0000 - mul31(a, 0x1_0000_0000 - b)
+        }
+    } else {
+        if b < 0x8000_0000 {
+            0x4000_0000_0000_0000 - mul31(0x1_0000_0000 - a, b)
+        } else {
+            0x4000_0000_0000_0000 + mul31(0x1_0000_0000 - a, 0x1_0000_0000 - b)
+        }
+    }
+}
+
+// A product raised by 2^62 as a fraction, raised by 2^39.
+fn fraction(rt: bool, p: u64) -> u64
+    requires { ⌜ p ≤ 2 ^ 63 ⌝ }
+    ensures { λ r. ⌜ IsFraction rt p r ⌝ }
+{
+    let q = p / 0x80_0000;
+    let up = rounds_up(0x80_0000, p % 0x80_0000, q);
+    if rt & up { q + 1 } else { q }
+}
+
+fn fractional_product(rt: bool, x: u32, y: u32) -> Raised
+    ensures { λ r. ⌜ IsNumber (fractionOf rt (signed Long x *ℤ signed Long y)) false r ⌝ }
+{
+    let f = fraction(rt, product(x, y));
+    Raised {
+        value: f + 0xF_FF80_0000_0000,
+        over: false,
+    }
+}
+
+fn unsigned_product(omc: bool, x: u32, y: u32) -> Raised
+    ensures { λ r. ⌜ IsNumber (pos (unsignedProduct omc (x * y))) (leb (2 ^ 40) (x * y)) r ⌝ }
+{
+    let n = (x as u64) * (y as u64);
+    if n < 0x100_0000_0000 {
+        return Raised {
+            value: 0x10_0000_0000_0000 + n,
+            over: false,
+        };
+    }
+    if omc {
+        return Raised {
+            value: 0x14_0000_0000_0000,
+            over: true,
+        };
+    }
+    Raised {
+        value: 0x10_0000_0000_0000 + n % 0x100_0000_0000,
+        over: true,
+    }
+}
+
+fn signed_product(omc: bool, x: u32, y: u32) -> Raised
+    ensures { λ r. ⌜ IsNumber (signedProduct omc (signed Long x *ℤ signed Long y)) (not (inHalf (2 ^ 39) (signed Long x *ℤ signed Long y))) r ⌝ }
+{
+    let p = product(x, y);
+    let over = (p < 0x3FFF_FF80_0000_0000) | (p >= 0x4000_0080_0000_0000);
+    if over & omc {
+        if p < 0x4000_0000_0000_0000 {
+            return Raised {
+                value: 0xB_FFFF_FFFF_FFFF,
+                over: over,
+            };
+        }
+        return Raised {
+            value: 0x14_0000_0000_0000,
+            over: over,
+        };
+    }
+    Raised {
+        value: (p + 0x80_0000_0000) % 0x100_0000_0000 + 0xF_FF80_0000_0000,
+        over: over,
+    }
+}
+
+pub(crate) fn mac_product(k: Mode, x: u32, y: u32) -> Raised
+    ensures { λ r. ⌜ IsNumber (productOf k x y) (productOver k x y) r ⌝ }
+{
+    if k.fi {
+        return fractional_product(k.rt, x, y);
+    }
+    if k.su {
+        return unsigned_product(k.omc, x, y);
+    }
+    signed_product(k.omc, x, y)
+}
+
+// The scale factor is one of integers alone.
+pub(crate) fn scale_of(k: Mode, s: u32) -> u32
+    ensures { λ r. ⌜ r ≡ scaleOf k s ⌝ }
+{
+    if k.fi { 0 } else { s }
+}
+
+pub(crate) fn scaled(s: u32, v: u64) -> u64
+    requires { ⌜ (2 ^ 52 - 2 ^ 50 - 1 ≤ v) × (v ≤ 2 ^ 52 + 2 ^ 50) ⌝ }
+    ensures { λ r. ⌜ IsScaled s v r ⌝ }
+{
+    if s == 1 {
+        return v + v - 0x10_0000_0000_0000;
+    }
+    if s == 3 {
+        return (v + 0x10_0000_0000_0000) / 2;
+    }
+    v
+}

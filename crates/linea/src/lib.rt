@@ -1,0 +1,3 @@
+pub mod mac;
+pub mod moves;
+pub mod rowsa;
