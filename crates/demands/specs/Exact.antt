@@ -1,0 +1,664 @@
+-- Each reply is given exactly when the document says. Document: "Numbered replies".
+--
+--   1  memory too long
+--   2  state not admitted
+--   3  state stopped (step)
+--   4  an access this call makes is not inside (of each call that names its accesses: for a step, of what it leaves to be done)
+--   5  line 8; 0x4E7A, 0x4E7B; EMAC word operand
+--   6  level above 7
+--   7  interrupt masked: level below 7 and at most the mask
+--   8  block or file: first byte not 1
+--   9  block or file: wrong length
+--
+-- Order: 9 when under five bytes, 8, 9, then 1, 2, 6, 7, 3, and then in the order the step comes to them. Assumes nothing.
+use Prim.Native.Nat.{ℕ, _+_, _/_, _%_, _≤_, _<_}
+use mathlib.Core.Path.{_≡_, refl, sym, ap, _∙_}
+use mathlib.Core.Bool.{Bool, true, false, cond, _&&_, false≢true}
+use mathlib.Core.List.{List}
+use mathlib.Core.Logic.{_↔_, _⊎_, ⊎-elim, inl, inr}
+use native.Mathlib.Omega.{arith}
+use lib.Bits.{bitAnd}
+use lib.Dec.{eqb, ltb, leb}
+use lib.ListN.{length, getD}
+use Rattle.manual.specs.declared.Cpu.{Cpu}
+use Rattle.manual.specs.declared.Level.{Level}
+use Rattle.manual.specs.declared.Level.the-variants.{Kept, To}
+use Rattle.manual.specs.declared.Size.the-variants.{Word, Long}
+use Rattle.manual.specs.declared.Reply.{Reply}
+use Rattle.manual.specs.declared.Reply.the-variants.{Done, TooLong, NotAdmitted, Stopped, NotInside, OutOfRange, Masked, WrongVersion, WrongLength}
+use Rattle.manual.specs.declared.Answer.{Answer}
+use Rattle.manual.specs.declared.Told.{Told}
+use Rattle.manual.specs.declared.Popped.{Popped}
+use Rattle.manual.specs.declared.Change.{Change}
+use Rattle.manual.specs.Word.{bytes, plus, minus}
+use Rattle.manual.specs.Registers.{addressOf, withAddress}
+use Rattle.manual.specs.Memory.{inside, valueAt, numberAt, stored}
+use Rattle.manual.specs.Reply.{numberOf, Outcome, completed, unchanged, refusal}
+use Rattle.manual.specs.Admitted.{admitted, tooLong, checked}
+use Rattle.manual.specs.Differences.{vectorPlace}
+use Rattle.manual.specs.Exceptions.{maskOf, setSr, handling, pcPlace, framePlace, entered, left, levelTaken, masked, exception, interrupt, rte, push32, notPopped, pop32, setSrCall, told, ipl, supervisorCall}
+use Rattle.manual.specs.Block.{saysAdmitted, stateAt, notRead, readBlock, blockOf, Stored, storeBlock}
+use Rattle.manual.specs.Image.{imageMemory, imageState, imageReply}
+use Rattle.instructions.specs.Rows.{rowOf}
+use Rattle.instructions.specs.Perform.{perform}
+use Rattle.instructions.specs.Step.{instruction, step}
+use Rattle.memory.specs.MemoryLaws.{value-lt}
+use Rattle.demands.specs.BodyLaws.{Excused, instruction-fine, excused-refused, movec-read, movec-write, mac-fits, mac-row}
+use Rattle.demands.specs.StepLaws.{doing, fetched, not-fetched, perform-refuse}
+use Rattle.demands.specs.ReplyLaws as laws
+
+-- the number of an outcome's reply
+abbrev pub numbered : Outcome → ℕ
+numbered o = numberOf (o .stepped .reply)
+
+-- neither reply 1 nor reply 2: memory is short enough, and the state is admitted
+abbrev pub Ready : Cpu → List ℕ → Type 0
+Ready s m = (length m ≤ 0x100_0000) × (admitted s ≡ true)
+
+-- an access of n bytes at a is not inside
+abbrev pub Outside : List ℕ → ℕ → ℕ → Type 0
+Outside m a n = length m < a + n
+
+-- a word op at `at` that is not carried
+pub data NotCarriedWord (m : List ℕ) (at op : ℕ) : Type 0 where
+  line-8 : op / 0x1000 ≡ 8 → NotCarriedWord m at op
+  movec : (op ≡ 0x4E7A) ⊎ (op ≡ 0x4E7B) → NotCarriedWord m at op
+  -- a MAC word, A000/F100, of a mode below 6, whose second word is inside and has bit 11 clear
+  word-operand : bitAnd op 0xF100 ≡ 0xA000 → op / 8 % 8 ≤ 5 → inside m (plus at 2) 2 ≡ true → numberAt m (plus at 2) Word / 0x800 % 2 ≡ 0
+      → NotCarriedWord m at op
+
+pub record Reply1 : Type 0 where
+  pub step-1 : (s : Cpu) (m : List ℕ) → (numbered (step s m) ≡ 1) ↔ (0x100_0000 < length m)
+  pub exception-1 : (s : Cpu) (m : List ℕ) (vector pc : ℕ) (level : Level) → (numbered (exception s m vector pc level) ≡ 1) ↔ (0x100_0000 < length m)
+  pub interrupt-1 : (s : Cpu) (m : List ℕ) (vector level : ℕ) → (numbered (interrupt s m vector level) ≡ 1) ↔ (0x100_0000 < length m)
+  pub rte-1 : (s : Cpu) (m : List ℕ) → (numbered (rte s m) ≡ 1) ↔ (0x100_0000 < length m)
+  pub push32-1 : (s : Cpu) (m : List ℕ) (v : ℕ) → (numbered (push32 s m v) ≡ 1) ↔ (0x100_0000 < length m)
+  pub pop32-1 : (s : Cpu) (m : List ℕ) → (numberOf (pop32 s m .reply) ≡ 1) ↔ (0x100_0000 < length m)
+
+pub record Reply2 : Type 0 where
+  pub step-2 : (s : Cpu) (m : List ℕ) → (numbered (step s m) ≡ 2) ↔ ((length m ≤ 0x100_0000) × (admitted s ≡ false))
+  pub exception-2 : (s : Cpu) (m : List ℕ) (vector pc : ℕ) (level : Level)
+      → (numbered (exception s m vector pc level) ≡ 2) ↔ ((length m ≤ 0x100_0000) × (admitted s ≡ false))
+  pub interrupt-2 : (s : Cpu) (m : List ℕ) (vector level : ℕ) → (numbered (interrupt s m vector level) ≡ 2) ↔ ((length m ≤ 0x100_0000) × (admitted s ≡ false))
+  pub rte-2 : (s : Cpu) (m : List ℕ) → (numbered (rte s m) ≡ 2) ↔ ((length m ≤ 0x100_0000) × (admitted s ≡ false))
+  pub push32-2 : (s : Cpu) (m : List ℕ) (v : ℕ) → (numbered (push32 s m v) ≡ 2) ↔ ((length m ≤ 0x100_0000) × (admitted s ≡ false))
+  pub pop32-2 : (s : Cpu) (m : List ℕ) → (numberOf (pop32 s m .reply) ≡ 2) ↔ ((length m ≤ 0x100_0000) × (admitted s ≡ false))
+  pub set-sr-2 : (s : Cpu) (v : ℕ) → (numberOf (setSrCall s v .reply) ≡ 2) ↔ (admitted s ≡ false)
+  pub ipl-2 : (s : Cpu) → (numberOf (ipl s .reply) ≡ 2) ↔ (admitted s ≡ false)
+  pub supervisor-2 : (s : Cpu) → (numberOf (supervisorCall s .reply) ≡ 2) ↔ (admitted s ≡ false)
+
+pub record Reply3 : Type 0 where
+  pub step-3 : (s : Cpu) (m : List ℕ) → (numbered (step s m) ≡ 3) ↔ (Ready s m × (s .stopped ≡ true))
+
+-- an entry stores two longs, sp being A7 with the handler's status register, and reads the vector; a return reads two longs
+pub record Reply4 : Type 0 where
+  pub exception-4 : (s : Cpu) (m : List ℕ) (vector pc : ℕ) (level : Level)
+      → let sp : ℕ = addressOf (setSr (handling level (s .sr)) s .r) 7 in
+      (numbered (exception s m vector pc level) ≡ 4)
+      ↔ (Ready s m × ((levelTaken level ≡ true) × (Outside m (pcPlace sp) 4 ⊎ (Outside m (framePlace sp) 4 ⊎ Outside m (vectorPlace (s .vbr) vector) 4))))
+  pub interrupt-4 : (s : Cpu) (m : List ℕ) (vector level : ℕ)
+      → let sp : ℕ = addressOf (setSr (handling (To level) (s .sr)) s .r) 7 in
+      (numbered (interrupt s m vector level) ≡ 4)
+      ↔ (Ready s m
+      × ((level < 8)
+      × ((masked (s .sr) level ≡ false) × (Outside m (pcPlace sp) 4 ⊎ (Outside m (framePlace sp) 4 ⊎ Outside m (vectorPlace (s .vbr) vector) 4)))))
+  pub rte-4 : (s : Cpu) (m : List ℕ)
+      → (numbered (rte s m) ≡ 4) ↔ (Ready s m × (Outside m (addressOf (s .r) 7) 4 ⊎ Outside m (plus (addressOf (s .r) 7) 4) 4))
+  pub push32-4 : (s : Cpu) (m : List ℕ) (v : ℕ) → (numbered (push32 s m v) ≡ 4) ↔ (Ready s m × Outside m (minus (addressOf (s .r) 7) 4) 4)
+  pub pop32-4 : (s : Cpu) (m : List ℕ) → (numberOf (pop32 s m .reply) ≡ 4) ↔ (Ready s m × Outside m (addressOf (s .r) 7) 4)
+
+pub record Reply5 : Type 0 where
+  pub step-5 : (s : Cpu) (m : List ℕ) → ((j : ℕ) → getD m j 0 < 256)
+      → (numbered (step s m) ≡ 5)
+      ↔ (Ready s m × ((s .stopped ≡ false) × ((s .pc + 2 ≤ length m) × NotCarriedWord m (s .pc) (numberAt m (s .pc) Word))))
+
+pub record Reply6 : Type 0 where
+  pub exception-6 : (s : Cpu) (m : List ℕ) (vector pc level : ℕ) → (numbered (exception s m vector pc (To level)) ≡ 6) ↔ (Ready s m × (8 ≤ level))
+  pub exception-kept-6 : (s : Cpu) (m : List ℕ) (vector pc : ℕ) → numbered (exception s m vector pc Kept) ≡ 6 → ⊥
+  pub interrupt-6 : (s : Cpu) (m : List ℕ) (vector level : ℕ) → (numbered (interrupt s m vector level) ≡ 6) ↔ (Ready s m × (8 ≤ level))
+
+pub record Reply7 : Type 0 where
+  pub interrupt-7 : (s : Cpu) (m : List ℕ) (vector level : ℕ)
+      → (numbered (interrupt s m vector level) ≡ 7) ↔ (Ready s m × ((level < 7) × (level ≤ s .sr / 0x100 % 8)))
+
+-- a block has 128 bytes, of which the first is 1 and the next four say 123
+pub record Reply8And9 : Type 0 where
+  pub read-block-9 : (b : List ℕ)
+      → (numberOf (readBlock b .reply) ≡ 9) ↔ ((length b < 5) ⊎ ((5 ≤ length b) × ((valueAt b 0 1 ≡ 1) × ((length b ≡ 128) × (valueAt b 1 4 ≡ 123) → ⊥))))
+  pub read-block-8 : (b : List ℕ) → (numberOf (readBlock b .reply) ≡ 8) ↔ ((5 ≤ length b) × (valueAt b 0 1 ≡ 1 → ⊥))
+  pub read-block-2 : (b : List ℕ)
+      → (numberOf (readBlock b .reply) ≡ 2) ↔ ((5 ≤ length b) × ((valueAt b 0 1 ≡ 1) × (((length b ≡ 128) × (valueAt b 1 4 ≡ 123)) × (saysAdmitted b ≡ false))))
+  pub store-block-9 : (s : Cpu) (b : List ℕ) → (numberOf (storeBlock s b .reply) ≡ 9) ↔ (length b ≡ 128 → ⊥)
+  pub store-block-2 : (s : Cpu) (b : List ℕ) → (numberOf (storeBlock s b .reply) ≡ 2) ↔ ((length b ≡ 128) × (admitted s ≡ false))
+  -- an image file says how many bytes follow its first five: 14 to 49,166
+  pub image-9 : (f : List ℕ)
+      → let l : ℕ = valueAt f 1 4 in
+      (numberOf (imageReply f) ≡ 9) ↔ ((length f < 5) ⊎ ((5 ≤ length f) × ((valueAt f 0 1 ≡ 1) × ((14 ≤ l) × ((l ≤ 49166) × (length f ≡ 5 + l)) → ⊥))))
+  pub image-8 : (f : List ℕ) → (numberOf (imageReply f) ≡ 8) ↔ ((5 ≤ length f) × (valueAt f 0 1 ≡ 1 → ⊥))
+  pub image-2 : (f : List ℕ)
+      → let l : ℕ = valueAt f 1 4 in
+      (numberOf (imageReply f) ≡ 2)
+      ↔ ((5 ≤ length f) × ((valueAt f 0 1 ≡ 1) × (((14 ≤ l) × ((l ≤ 49166) × (length f ≡ 5 + l))) × (admitted (imageState f) ≡ false))))
+
+-- no other reply
+pub record NoOthers : Type 0 where
+  pub step-to-5 : (s : Cpu) (m : List ℕ) → numbered (step s m) ≤ 5
+
+-- ---- the words that are not carried
+
+read-row : (op : ℕ) → op ≡ 0x4E7A → rowOf op ≡ 24
+unfolding rowOf
+read-row op h = rw h
+
+write-row : (op : ℕ) → op ≡ 0x4E7B → rowOf op ≡ 25
+unfolding rowOf
+write-row op h = rw h
+
+kinds : (m : List ℕ) (at op : ℕ) → op < 0x1_0000 → Excused at m op ↔ NotCarriedWord m at op
+kinds m at op small = (there, back)
+  where
+    there : Excused at m op → NotCarriedWord m at op
+    there (inl h) = line-8 (omega arith)
+    there (inr (inl (inl h))) = movec (inl (movec-read op small h))
+    there (inr (inl (inr h))) = movec (inr (movec-write op small h))
+    there (inr (inr h)) = word-operand (mac-fits op small (h .0)) (h .1 .0) (h .1 .1 .0) (h .1 .1 .1)
+
+    back : NotCarriedWord m at op → Excused at m op
+    back (line-8 h) = inl (omega arith)
+    back (movec (inl h)) = inr (inl (inl (read-row op h)))
+    back (movec (inr h)) = inr (inl (inr (write-row op h)))
+    back (word-operand f mode i w) = inr (inr (mac-row op small f, (mode, (i, w))))
+
+few : (s : Cpu) (n : Reply) (m : List ℕ) → numberOf n ≤ 5 → numbered (unchanged s n m) ≤ 5
+few s n m h = rw (laws.number-same s n m) h
+
+-- ---- a step
+
+module _ (s : Cpu) (m : List ℕ) where
+  abbrev acted : Outcome
+  acted = perform s (doing s m) m
+
+  abbrev inner : Outcome
+  inner = cond (s .stopped) (unchanged s Stopped m) acted
+
+  abbrev op : ℕ
+  op = numberAt m (s .pc) Word
+
+  acted-kind : ((numbered acted ≡ 0) ⊎ (numbered acted ≡ 4)) ⊎ ((numbered acted ≡ 5) × ((inside m (s .pc) 2 ≡ true) × Excused (s .pc) m op))
+  unfolding numberOf refusal
+  acted-kind = by (inside m (s .pc) 2) refl
+    where
+      by : (b : Bool) → inside m (s .pc) 2 ≡ b → ((numbered acted ≡ 0) ⊎ (numbered acted ≡ 4)) ⊎ ((numbered acted ≡ 5) × ((inside m (s .pc) 2 ≡ true) × Excused (s .pc) m op))
+      by false i = inl (inr (rw (not-fetched (s .r) (s .pc) (s .sr) (s .other) (s .emac) m i, perform-refuse s NotInside m)))
+      by true i =
+          let e : doing s m ≡ instruction (s .r) (s .pc) (s .sr) (s .other) (s .emac) m op = fetched (s .r) (s .pc) (s .sr) (s .other) (s .emac) m op i refl in
+          ⊎-elim
+          (λ x. inr (ap (λ (c : Change). numbered (perform s c m)) (e ∙ x .1) ∙ laws.perform-5 s m, (i, x .0)))
+          (λ f. inl (rw e (laws.perform-only s _ m f)))
+          (instruction-fine (s .r) (s .pc) (s .sr) (s .other) (s .emac) m op)
+
+  acted-never : (k : ℕ) → (0 ≡ k → ⊥) → (4 ≡ k → ⊥) → (5 ≡ k → ⊥) → numbered acted ≡ k → ⊥
+  acted-never k n0 n4 n5 e = ⊎-elim (⊎-elim (λ h. n0 (sym h ∙ e)) (λ h. n4 (sym h ∙ e))) (λ h. n5 (sym (h .0) ∙ e)) acted-kind
+
+  inner-number : numbered inner ≡ cond (s .stopped) 3 (numbered acted)
+  unfolding numberOf refusal
+  inner-number = laws.number-cond (s .stopped) (unchanged s Stopped m) acted
+
+  inner-never : (k : ℕ) → (0 ≡ k → ⊥) → (3 ≡ k → ⊥) → (4 ≡ k → ⊥) → (5 ≡ k → ⊥) → numbered inner ≡ k → ⊥
+  inner-never k n0 n3 n4 n5 e = laws.neither (s .stopped) 3 (numbered acted) k n3 (acted-never k n0 n4 n5) (sym inner-number ∙ e)
+
+  of-step-1 : (numbered (step s m) ≡ 1) ↔ (0x100_0000 < length m)
+  unfolding step
+  of-step-1 = laws.checked-1 s m inner (inner-never 1 (λ h. omega arith) (λ h. omega arith) (λ h. omega arith) (λ h. omega arith))
+
+  of-step-2 : (numbered (step s m) ≡ 2) ↔ ((length m ≤ 0x100_0000) × (admitted s ≡ false))
+  unfolding step
+  of-step-2 = laws.checked-2 s m inner (inner-never 2 (λ h. omega arith) (λ h. omega arith) (λ h. omega arith) (λ h. omega arith))
+
+  of-step-3 : (numbered (step s m) ≡ 3) ↔ (Ready s m × (s .stopped ≡ true))
+  unfolding step
+  of-step-3 =
+      laws.iff-trans (laws.checked-on s m inner 3 (λ h. omega arith) (λ h. omega arith))
+      (laws.iff-and laws.iff-same
+      (rw inner-number (laws.here 3 (numbered acted) (acted-never 3 (λ h. omega arith) (λ h. omega arith) (λ h. omega arith)) (s .stopped))))
+
+  acted-5 : ((j : ℕ) → getD m j 0 < 256) → (numbered acted ≡ 5) ↔ ((s .pc + 2 ≤ length m) × NotCarriedWord m (s .pc) op)
+  acted-5 all = (there, back)
+    where
+      small : op < 0x1_0000
+      small = value-lt m (s .pc) 2 all
+
+      there : numbered acted ≡ 5 → (s .pc + 2 ≤ length m) × NotCarriedWord m (s .pc) op
+      there e =
+          ⊎-elim (λ h. absurd (⊎-elim (λ x. omega (arith, sym x ∙ e)) (λ x. omega (arith, sym x ∙ e)) h))
+          (λ h. (laws.iff-le _ _ .0 (h .1 .0), kinds m (s .pc) op small .0 (h .1 .1)))
+          acted-kind
+
+      back : (s .pc + 2 ≤ length m) × NotCarriedWord m (s .pc) op → numbered acted ≡ 5
+      back h =
+          let i : inside m (s .pc) 2 ≡ true = laws.iff-le _ _ .1 (h .0) in
+          ap (λ (c : Change). numbered (perform s c m))
+          (fetched (s .r) (s .pc) (s .sr) (s .other) (s .emac) m op i refl
+          ∙ excused-refused (s .r) (s .pc) (s .sr) (s .other) (s .emac) m op small (kinds m (s .pc) op small .1 (h .1)))
+          ∙ laws.perform-5 s m
+
+  of-step-5 : ((j : ℕ) → getD m j 0 < 256) → (numbered (step s m) ≡ 5) ↔ (Ready s m × ((s .stopped ≡ false) × ((s .pc + 2 ≤ length m) × NotCarriedWord m (s .pc) op)))
+  unfolding step
+  of-step-5 all =
+      laws.iff-trans (laws.checked-on s m inner 5 (λ h. omega arith) (λ h. omega arith))
+      (laws.iff-and laws.iff-same
+      (rw inner-number (laws.iff-trans (laws.later 5 (numbered acted) 3 (λ h. omega arith) (s .stopped)) (laws.iff-and laws.iff-same (acted-5 all)))))
+
+  step-number : numbered (step s m) ≤ 5
+  unfolding step numberOf
+  step-number = by (tooLong m) (admitted s) (s .stopped)
+    where
+      small : numbered acted ≤ 5
+      small = ⊎-elim (⊎-elim (λ h. omega arith) (λ h. omega arith)) (λ h. omega (arith, h .0)) acted-kind
+
+      by : (a b c : Bool) → numbered (cond a (unchanged s TooLong m) (cond b (cond c (unchanged s Stopped m) acted) (unchanged s NotAdmitted m))) ≤ 5
+      by true b c = few s TooLong m (omega arith)
+      by false true true = few s Stopped m (omega arith)
+      by false true false = small
+      by false false c = few s NotAdmitted m (omega arith)
+
+-- ---- entries and returns
+
+module _ (s : Cpu) (m : List ℕ) (vector pc : ℕ) (level : Level) where
+  abbrev entry : Outcome
+  entry = entered s s level vector pc m
+
+  entry-never : (k : ℕ) → (0 ≡ k → ⊥) → (4 ≡ k → ⊥) → numbered entry ≡ k → ⊥
+  entry-never k n0 n4 e = ⊎-elim (λ h. n0 (sym h ∙ e)) (λ h. n4 (sym h ∙ e)) (laws.entered-only s s level vector pc m)
+
+  abbrev called : Outcome
+  called = cond (levelTaken level) entry (unchanged s OutOfRange m)
+
+  called-number : numbered called ≡ cond (levelTaken level) (numbered entry) 6
+  unfolding numberOf refusal
+  called-number = laws.number-cond (levelTaken level) entry (unchanged s OutOfRange m)
+
+  called-never : (k : ℕ) → (0 ≡ k → ⊥) → (4 ≡ k → ⊥) → (6 ≡ k → ⊥) → numbered called ≡ k → ⊥
+  called-never k n0 n4 n6 e = laws.neither (levelTaken level) (numbered entry) 6 k (entry-never k n0 n4) n6 (sym called-number ∙ e)
+
+  of-exception-1 : (numbered (exception s m vector pc level) ≡ 1) ↔ (0x100_0000 < length m)
+  unfolding exception
+  of-exception-1 = laws.checked-1 s m called (called-never 1 (λ h. omega arith) (λ h. omega arith) (λ h. omega arith))
+
+  of-exception-2 : (numbered (exception s m vector pc level) ≡ 2) ↔ ((length m ≤ 0x100_0000) × (admitted s ≡ false))
+  unfolding exception
+  of-exception-2 = laws.checked-2 s m called (called-never 2 (λ h. omega arith) (λ h. omega arith) (λ h. omega arith))
+
+  of-exception-4 : let sp : ℕ = addressOf (setSr (handling level (s .sr)) s .r) 7 in
+      (numbered (exception s m vector pc level) ≡ 4)
+      ↔ (Ready s m × ((levelTaken level ≡ true) × (Outside m (pcPlace sp) 4 ⊎ (Outside m (framePlace sp) 4 ⊎ Outside m (vectorPlace (s .vbr) vector) 4))))
+  unfolding exception
+  of-exception-4 =
+      laws.iff-trans (laws.checked-on s m called 4 (λ h. omega arith) (λ h. omega arith))
+      (laws.iff-and laws.iff-same
+      (rw called-number (laws.iff-trans (laws.later-else 4 (numbered entry) 6 (λ h. omega arith) (levelTaken level)) (laws.iff-and laws.iff-same (laws.entered-4 s s level vector pc m)))))
+
+  of-exception-6 : (numbered (exception s m vector pc level) ≡ 6) ↔ (Ready s m × (levelTaken level ≡ false))
+  unfolding exception
+  of-exception-6 =
+      laws.iff-trans (laws.checked-on s m called 6 (λ h. omega arith) (λ h. omega arith))
+      (laws.iff-and laws.iff-same (rw called-number (laws.here-else 6 (numbered entry) (entry-never 6 (λ h. omega arith) (λ h. omega arith)) (levelTaken level))))
+
+module _ (s : Cpu) (m : List ℕ) (vector level : ℕ) where
+  abbrev taken : Outcome
+  taken = entered s s (To level) vector (s .pc) m
+
+  abbrev tried : Outcome
+  tried = cond (masked (s .sr) level) (unchanged s Masked m) taken
+
+  abbrev asked : Outcome
+  asked = cond (ltb level 8) tried (unchanged s OutOfRange m)
+
+  tried-number : numbered tried ≡ cond (masked (s .sr) level) 7 (numbered taken)
+  unfolding numberOf refusal
+  tried-number = laws.number-cond (masked (s .sr) level) (unchanged s Masked m) taken
+
+  asked-number : numbered asked ≡ cond (ltb level 8) (numbered tried) 6
+  unfolding numberOf refusal
+  asked-number = laws.number-cond (ltb level 8) tried (unchanged s OutOfRange m)
+
+  taken-never : (k : ℕ) → (0 ≡ k → ⊥) → (4 ≡ k → ⊥) → numbered taken ≡ k → ⊥
+  taken-never k n0 n4 e = entry-never s m vector (s .pc) (To level) k n0 n4 e
+
+  tried-never : (k : ℕ) → (0 ≡ k → ⊥) → (4 ≡ k → ⊥) → (7 ≡ k → ⊥) → numbered tried ≡ k → ⊥
+  tried-never k n0 n4 n7 e = laws.neither (masked (s .sr) level) 7 (numbered taken) k n7 (taken-never k n0 n4) (sym tried-number ∙ e)
+
+  asked-never : (k : ℕ) → (0 ≡ k → ⊥) → (4 ≡ k → ⊥) → (6 ≡ k → ⊥) → (7 ≡ k → ⊥) → numbered asked ≡ k → ⊥
+  asked-never k n0 n4 n6 n7 e = laws.neither (ltb level 8) (numbered tried) 6 k (tried-never k n0 n4 n7) n6 (sym asked-number ∙ e)
+
+  of-interrupt-1 : (numbered (interrupt s m vector level) ≡ 1) ↔ (0x100_0000 < length m)
+  unfolding interrupt
+  of-interrupt-1 = laws.checked-1 s m asked (asked-never 1 (λ h. omega arith) (λ h. omega arith) (λ h. omega arith) (λ h. omega arith))
+
+  of-interrupt-2 : (numbered (interrupt s m vector level) ≡ 2) ↔ ((length m ≤ 0x100_0000) × (admitted s ≡ false))
+  unfolding interrupt
+  of-interrupt-2 = laws.checked-2 s m asked (asked-never 2 (λ h. omega arith) (λ h. omega arith) (λ h. omega arith) (λ h. omega arith))
+
+  of-interrupt-4 : let sp : ℕ = addressOf (setSr (handling (To level) (s .sr)) s .r) 7 in
+      (numbered (interrupt s m vector level) ≡ 4)
+      ↔ (Ready s m
+      × ((level < 8)
+      × ((masked (s .sr) level ≡ false) × (Outside m (pcPlace sp) 4 ⊎ (Outside m (framePlace sp) 4 ⊎ Outside m (vectorPlace (s .vbr) vector) 4)))))
+  unfolding interrupt
+  of-interrupt-4 =
+      laws.iff-trans (laws.checked-on s m asked 4 (λ h. omega arith) (λ h. omega arith))
+      (laws.iff-and laws.iff-same
+      (rw asked-number
+      (laws.iff-trans (laws.later-else 4 (numbered tried) 6 (λ h. omega arith) (ltb level 8))
+      (laws.iff-and (laws.iff-lt level 8)
+      (rw tried-number
+      (laws.iff-trans (laws.later 4 (numbered taken) 7 (λ h. omega arith) (masked (s .sr) level))
+      (laws.iff-and laws.iff-same (laws.entered-4 s s (To level) vector (s .pc) m))))))))
+
+  of-interrupt-6 : (numbered (interrupt s m vector level) ≡ 6) ↔ (Ready s m × (8 ≤ level))
+  unfolding interrupt
+  of-interrupt-6 =
+      laws.iff-trans (laws.checked-on s m asked 6 (λ h. omega arith) (λ h. omega arith))
+      (laws.iff-and laws.iff-same
+      (rw asked-number
+      (laws.iff-trans (laws.here-else 6 (numbered tried) (tried-never 6 (λ h. omega arith) (λ h. omega arith) (λ h. omega arith)) (ltb level 8))
+      (laws.iff-not-lt level 8))))
+
+  masked-when : (masked (s .sr) level ≡ true) ↔ ((level < 7) × (level ≤ s .sr / 0x100 % 8))
+  unfolding masked
+  masked-when = laws.iff-trans (laws.iff-both (ltb level 7) (leb level (maskOf (s .sr)))) (laws.iff-and (laws.iff-lt level 7) (laws.iff-le level (maskOf (s .sr))))
+
+  of-interrupt-7 : (numbered (interrupt s m vector level) ≡ 7) ↔ (Ready s m × ((level < 7) × (level ≤ s .sr / 0x100 % 8)))
+  unfolding interrupt
+  of-interrupt-7 =
+      laws.iff-trans (laws.checked-on s m asked 7 (λ h. omega arith) (λ h. omega arith))
+      (laws.iff-and laws.iff-same
+      (rw asked-number
+      (laws.iff-trans (laws.later-else 7 (numbered tried) 6 (λ h. omega arith) (ltb level 8))
+      (rw tried-number
+      (laws.iff-trans
+      (laws.iff-and (laws.iff-lt level 8)
+      (laws.iff-trans (laws.here 7 (numbered taken) (taken-never 7 (λ h. omega arith) (λ h. omega arith)) (masked (s .sr) level)) masked-when))
+      (λ h. h .1, λ h. (omega (arith, h .0), h)))))))
+
+module _ (s : Cpu) (m : List ℕ) where
+  back-never : (k : ℕ) → (0 ≡ k → ⊥) → (4 ≡ k → ⊥) → numbered (left s s m) ≡ k → ⊥
+  back-never k n0 n4 e = ⊎-elim (λ h. n0 (sym h ∙ e)) (λ h. n4 (sym h ∙ e)) (laws.left-only s s m)
+
+  of-rte-1 : (numbered (rte s m) ≡ 1) ↔ (0x100_0000 < length m)
+  unfolding rte
+  of-rte-1 = laws.checked-1 s m (left s s m) (back-never 1 (λ h. omega arith) (λ h. omega arith))
+
+  of-rte-2 : (numbered (rte s m) ≡ 2) ↔ ((length m ≤ 0x100_0000) × (admitted s ≡ false))
+  unfolding rte
+  of-rte-2 = laws.checked-2 s m (left s s m) (back-never 2 (λ h. omega arith) (λ h. omega arith))
+
+  of-rte-4 : (numbered (rte s m) ≡ 4) ↔ (Ready s m × (Outside m (addressOf (s .r) 7) 4 ⊎ Outside m (plus (addressOf (s .r) 7) 4) 4))
+  unfolding rte
+  of-rte-4 = laws.iff-trans (laws.checked-on s m (left s s m) 4 (λ h. omega arith) (λ h. omega arith)) (laws.iff-and laws.iff-same (laws.left-4 s s m))
+
+  -- a push and a pop
+
+  abbrev below : ℕ
+  below = minus (addressOf (s .r) 7) 4
+
+  abbrev pushing : ℕ → Outcome
+  pushing v = cond (inside m below 4) (completed (withAddress 7 below s) 0 (stored m below Long v)) (unchanged s NotInside m)
+
+  push-never : (v k : ℕ) → (0 ≡ k → ⊥) → (4 ≡ k → ⊥) → numbered (pushing v) ≡ k → ⊥
+  push-never v k n0 n4 e = ⊎-elim (λ h. n0 (sym h ∙ e)) (λ h. n4 (sym h ∙ e)) (laws.one-only s s m (inside m below 4) _ _)
+
+  of-push-1 : (v : ℕ) → (numbered (push32 s m v) ≡ 1) ↔ (0x100_0000 < length m)
+  unfolding push32
+  of-push-1 v = laws.checked-1 s m (pushing v) (push-never v 1 (λ h. omega arith) (λ h. omega arith))
+
+  of-push-2 : (v : ℕ) → (numbered (push32 s m v) ≡ 2) ↔ ((length m ≤ 0x100_0000) × (admitted s ≡ false))
+  unfolding push32
+  of-push-2 v = laws.checked-2 s m (pushing v) (push-never v 2 (λ h. omega arith) (λ h. omega arith))
+
+  of-push-4 : (v : ℕ) → (numbered (push32 s m v) ≡ 4) ↔ (Ready s m × Outside m below 4)
+  unfolding push32
+  of-push-4 v =
+      laws.iff-trans (laws.checked-on s m (pushing v) 4 (λ h. omega arith) (λ h. omega arith))
+      (laws.iff-and laws.iff-same (laws.iff-trans (laws.one-4 s s m (inside m below 4) _ _) (laws.outside m below 4)))
+
+  -- a pop answers as an outcome with the same reply would
+  popping : numberOf (pop32 s m .reply) ≡ numbered (checked s m (cond (inside m (addressOf (s .r) 7) 4) (completed s 0 m) (unchanged s NotInside m)))
+  unfolding pop32 refusal
+  popping = by (tooLong m) (admitted s) (inside m (addressOf (s .r) 7) 4) _ refl
+    where
+      by : (a b c : Bool) (p : Popped) → p .reply ≡ Done
+          → numberOf (cond a (notPopped s TooLong) (cond b (cond c p (notPopped s NotInside)) (notPopped s NotAdmitted)) .reply)
+          ≡ numbered (cond a (unchanged s TooLong m) (cond b (cond c (completed s 0 m) (unchanged s NotInside m)) (unchanged s NotAdmitted m)))
+      by true b c p e = refl
+      by false true true p e = ap numberOf e
+      by false true false p e = refl
+      by false false c p e = refl
+
+  pop-never : (k : ℕ) → (0 ≡ k → ⊥) → (4 ≡ k → ⊥) → numbered (cond (inside m (addressOf (s .r) 7) 4) (completed s 0 m) (unchanged s NotInside m)) ≡ k → ⊥
+  pop-never k n0 n4 e = ⊎-elim (λ h. n0 (sym h ∙ e)) (λ h. n4 (sym h ∙ e)) (laws.one-only s s m (inside m (addressOf (s .r) 7) 4) s m)
+
+  of-pop-1 : (numberOf (pop32 s m .reply) ≡ 1) ↔ (0x100_0000 < length m)
+  of-pop-1 = rw popping (laws.checked-1 s m _ (pop-never 1 (λ h. omega arith) (λ h. omega arith)))
+
+  of-pop-2 : (numberOf (pop32 s m .reply) ≡ 2) ↔ ((length m ≤ 0x100_0000) × (admitted s ≡ false))
+  of-pop-2 = rw popping (laws.checked-2 s m _ (pop-never 2 (λ h. omega arith) (λ h. omega arith)))
+
+  of-pop-4 : (numberOf (pop32 s m .reply) ≡ 4) ↔ (Ready s m × Outside m (addressOf (s .r) 7) 4)
+  of-pop-4 =
+      rw popping
+      (laws.iff-trans (laws.checked-on s m _ 4 (λ h. omega arith) (λ h. omega arith))
+      (laws.iff-and laws.iff-same (laws.iff-trans (laws.one-4 s s m (inside m (addressOf (s .r) 7) 4) s m) (laws.outside m (addressOf (s .r) 7) 4))))
+
+-- ---- the calls on the state alone
+
+set-sr-number : (s : Cpu) (v : ℕ) → numberOf (setSrCall s v .reply) ≡ cond (admitted s) 0 2
+unfolding setSrCall numberOf
+set-sr-number s v = by (admitted s) (setSr v s)
+  where
+    by : (b : Bool) (t : Cpu) → numberOf (cond {A = Answer} b (record { reply = Done; cpu = t }) (record { reply = NotAdmitted; cpu = s }) .reply) ≡ cond b 0 2
+    by true t = refl
+    by false t = refl
+
+told-number : (s : Cpu) (v : ℕ) → numberOf (told s v .reply) ≡ cond (admitted s) 0 2
+unfolding told numberOf
+told-number s v = by (admitted s)
+  where
+    by : (b : Bool) → numberOf (cond {A = Told} b (record { reply = Done; value = v }) (record { reply = NotAdmitted; value = 0 }) .reply) ≡ cond b 0 2
+    by true = refl
+    by false = refl
+
+abbrev pick : Bool → ℕ → ℕ → ℕ
+pick = cond
+
+not-2 : (s : Cpu) → (pick (admitted s) 0 2 ≡ 2) ↔ (admitted s ≡ false)
+not-2 s = laws.here-else 2 0 (λ h. omega arith) (admitted s)
+
+-- ---- blocks and files: four tests
+
+abbrev four : Bool → Bool → Bool → Bool → ℕ
+four a b c d = cond a 9 (cond b (cond c (cond d 0 2) 9) 8)
+
+module _ (a b c d : Bool) where
+  inner-9 : (pick b (pick c (pick d 0 2) 9) 8 ≡ 9) ↔ ((b ≡ true) × (c ≡ false))
+  inner-9 =
+      laws.iff-trans (laws.later-else 9 (cond c (cond d 0 2) 9) 8 (λ h. omega arith) b)
+      (laws.iff-and laws.iff-same (laws.here-else 9 (cond d 0 2) (laws.neither d 0 2 9 (λ h. omega arith) (λ h. omega arith)) c))
+
+  four-9 : (four a b c d ≡ 9) ↔ ((a ≡ true) ⊎ ((a ≡ false) × ((b ≡ true) × (c ≡ false))))
+  four-9 = by a
+    where
+      by : (a : Bool) → (four a b c d ≡ 9) ↔ ((a ≡ true) ⊎ ((a ≡ false) × ((b ≡ true) × (c ≡ false))))
+      by true = (λ h. inl refl, λ h. refl)
+      by false = (λ h. inr (refl, inner-9 .0 h), ⊎-elim (λ h. absurd (false≢true h)) (λ h. inner-9 .1 (h .1)))
+
+  four-8 : (four a b c d ≡ 8) ↔ ((a ≡ false) × (b ≡ false))
+  four-8 =
+      laws.iff-trans (laws.later 8 (cond b (cond c (cond d 0 2) 9) 8) 9 (λ h. omega arith) a)
+      (laws.iff-and laws.iff-same
+      (laws.here-else 8 (cond c (cond d 0 2) 9) (laws.neither c (cond d 0 2) 9 8 (laws.neither d 0 2 8 (λ h. omega arith) (λ h. omega arith)) (λ h. omega arith)) b))
+
+  four-2 : (four a b c d ≡ 2) ↔ ((a ≡ false) × ((b ≡ true) × ((c ≡ true) × (d ≡ false))))
+  four-2 =
+      laws.iff-trans (laws.later 2 (cond b (cond c (cond d 0 2) 9) 8) 9 (λ h. omega arith) a)
+      (laws.iff-and laws.iff-same
+      (laws.iff-trans (laws.later-else 2 (cond c (cond d 0 2) 9) 8 (λ h. omega arith) b)
+      (laws.iff-and laws.iff-same
+      (laws.iff-trans (laws.later-else 2 (cond d 0 2) 9 (λ h. omega arith) c) (laws.iff-and laws.iff-same (laws.here-else 2 0 (λ h. omega arith) d))))))
+
+-- a test that is not both is not either way
+iff-not-both : (a : Bool) {A : Type 0} → ((a ≡ true) ↔ A) → (a ≡ false) ↔ (A → ⊥)
+iff-not-both true p = (λ h. absurd (false≢true (sym h)), λ n. absurd (n (p .0 refl)))
+iff-not-both false p = (λ h x. false≢true (p .1 x), λ n. refl)
+
+module _ (b : List ℕ) where
+  read-number : numberOf (readBlock b .reply) ≡ four (ltb (length b) 5) (eqb (valueAt b 0 1) 1) (eqb (length b) 128 && eqb (valueAt b 1 4) 123) (saysAdmitted b)
+  unfolding readBlock numberOf
+  read-number = by (ltb (length b) 5) (eqb (valueAt b 0 1) 1) (eqb (length b) 128 && eqb (valueAt b 1 4) 123) (saysAdmitted b)
+    where
+      by : (x y z w : Bool)
+          → numberOf (cond {A = Answer} x (notRead WrongLength) (cond y (cond z (cond w (record { reply = Done; cpu = stateAt b }) (notRead NotAdmitted)) (notRead WrongLength)) (notRead WrongVersion)) .reply) ≡ four x y z w
+      by true y z w = refl
+      by false true true true = refl
+      by false true true false = refl
+      by false true false w = refl
+      by false false z w = refl
+
+  right-length : ((eqb (length b) 128 && eqb (valueAt b 1 4) 123) ≡ true) ↔ ((length b ≡ 128) × (valueAt b 1 4 ≡ 123))
+  right-length = laws.iff-trans (laws.iff-both (eqb (length b) 128) (eqb (valueAt b 1 4) 123)) (laws.iff-and (laws.iff-eq (length b) 128) (laws.iff-eq (valueAt b 1 4) 123))
+
+  of-read-9 : (numberOf (readBlock b .reply) ≡ 9) ↔ ((length b < 5) ⊎ ((5 ≤ length b) × ((valueAt b 0 1 ≡ 1) × ((length b ≡ 128) × (valueAt b 1 4 ≡ 123) → ⊥))))
+  of-read-9 =
+      rw read-number
+      (laws.iff-trans (four-9 (ltb (length b) 5) (eqb (valueAt b 0 1) 1) (eqb (length b) 128 && eqb (valueAt b 1 4) 123) (saysAdmitted b))
+      (laws.iff-or (laws.iff-lt (length b) 5)
+      (laws.iff-and (laws.iff-not-lt (length b) 5) (laws.iff-and (laws.iff-eq (valueAt b 0 1) 1) (iff-not-both _ right-length)))))
+
+  of-read-8 : (numberOf (readBlock b .reply) ≡ 8) ↔ ((5 ≤ length b) × (valueAt b 0 1 ≡ 1 → ⊥))
+  of-read-8 =
+      rw read-number
+      (laws.iff-trans (four-8 (ltb (length b) 5) (eqb (valueAt b 0 1) 1) (eqb (length b) 128 && eqb (valueAt b 1 4) 123) (saysAdmitted b))
+      (laws.iff-and (laws.iff-not-lt (length b) 5) (laws.iff-not-eq (valueAt b 0 1) 1)))
+
+  of-read-2 : (numberOf (readBlock b .reply) ≡ 2) ↔ ((5 ≤ length b) × ((valueAt b 0 1 ≡ 1) × (((length b ≡ 128) × (valueAt b 1 4 ≡ 123)) × (saysAdmitted b ≡ false))))
+  of-read-2 =
+      rw read-number
+      (laws.iff-trans (four-2 (ltb (length b) 5) (eqb (valueAt b 0 1) 1) (eqb (length b) 128 && eqb (valueAt b 1 4) 123) (saysAdmitted b))
+      (laws.iff-and (laws.iff-not-lt (length b) 5) (laws.iff-and (laws.iff-eq (valueAt b 0 1) 1) (laws.iff-and right-length laws.iff-same))))
+
+  store-number : (s : Cpu) → numberOf (storeBlock s b .reply) ≡ pick (eqb (length b) 128) (pick (admitted s) 0 2) 9
+  unfolding storeBlock numberOf
+  store-number s = by (eqb (length b) 128) (admitted s)
+    where
+      by : (x y : Bool)
+          → numberOf (cond {A = Stored} x (cond y (record { reply = Done; bytes = blockOf s }) (record { reply = NotAdmitted; bytes = b })) (record { reply = WrongLength; bytes = b }) .reply) ≡ pick x (pick y 0 2) 9
+      by true true = refl
+      by true false = refl
+      by false y = refl
+
+  of-store-9 : (s : Cpu) → (numberOf (storeBlock s b .reply) ≡ 9) ↔ (length b ≡ 128 → ⊥)
+  of-store-9 s =
+      rw (store-number s)
+      (laws.iff-trans (laws.here-else 9 (pick (admitted s) 0 2) (laws.neither (admitted s) 0 2 9 (λ h. omega arith) (λ h. omega arith)) (eqb (length b) 128)) (laws.iff-not-eq (length b) 128))
+
+  of-store-2 : (s : Cpu) → (numberOf (storeBlock s b .reply) ≡ 2) ↔ ((length b ≡ 128) × (admitted s ≡ false))
+  of-store-2 s =
+      rw (store-number s)
+      (laws.iff-trans (laws.later-else 2 (pick (admitted s) 0 2) 9 (λ h. omega arith) (eqb (length b) 128)) (laws.iff-and (laws.iff-eq (length b) 128) (not-2 s)))
+
+module _ (f : List ℕ) where
+  abbrev says : ℕ
+  says = valueAt f 1 4
+
+  abbrev matches : Bool
+  matches = leb 14 says && (leb says (imageMemory + 14) && eqb (length f) (5 + says))
+
+  image-number : numberOf (imageReply f) ≡ four (ltb (length f) 5) (eqb (valueAt f 0 1) 1) matches (admitted (imageState f))
+  unfolding imageReply numberOf
+  image-number = by (ltb (length f) 5) (eqb (valueAt f 0 1) 1) matches (admitted (imageState f))
+    where
+      by : (x y z w : Bool) → numberOf (cond x WrongLength (cond y (cond z (cond w Done NotAdmitted) WrongLength) WrongVersion)) ≡ four x y z w
+      by true y z w = refl
+      by false true true true = refl
+      by false true true false = refl
+      by false true false w = refl
+      by false false z w = refl
+
+  matching : (matches ≡ true) ↔ ((14 ≤ says) × ((says ≤ 49166) × (length f ≡ 5 + says)))
+  matching =
+      laws.iff-trans (laws.iff-both (leb 14 says) (leb says 49166 && eqb (length f) (5 + says)))
+      (laws.iff-and (laws.iff-le 14 says)
+      (laws.iff-trans (laws.iff-both (leb says 49166) (eqb (length f) (5 + says))) (laws.iff-and (laws.iff-le says 49166) (laws.iff-eq (length f) (5 + says)))))
+
+  of-image-9 : (numberOf (imageReply f) ≡ 9)
+      ↔ ((length f < 5) ⊎ ((5 ≤ length f) × ((valueAt f 0 1 ≡ 1) × ((14 ≤ says) × ((says ≤ 49166) × (length f ≡ 5 + says)) → ⊥))))
+  of-image-9 =
+      rw image-number
+      (laws.iff-trans (four-9 (ltb (length f) 5) (eqb (valueAt f 0 1) 1) matches (admitted (imageState f)))
+      (laws.iff-or (laws.iff-lt (length f) 5)
+      (laws.iff-and (laws.iff-not-lt (length f) 5) (laws.iff-and (laws.iff-eq (valueAt f 0 1) 1) (iff-not-both matches matching)))))
+
+  of-image-8 : (numberOf (imageReply f) ≡ 8) ↔ ((5 ≤ length f) × (valueAt f 0 1 ≡ 1 → ⊥))
+  of-image-8 =
+      rw image-number
+      (laws.iff-trans (four-8 (ltb (length f) 5) (eqb (valueAt f 0 1) 1) matches (admitted (imageState f)))
+      (laws.iff-and (laws.iff-not-lt (length f) 5) (laws.iff-not-eq (valueAt f 0 1) 1)))
+
+  of-image-2 : (numberOf (imageReply f) ≡ 2)
+      ↔ ((5 ≤ length f) × ((valueAt f 0 1 ≡ 1) × (((14 ≤ says) × ((says ≤ 49166) × (length f ≡ 5 + says))) × (admitted (imageState f) ≡ false))))
+  of-image-2 =
+      rw image-number
+      (laws.iff-trans (four-2 (ltb (length f) 5) (eqb (valueAt f 0 1) 1) matches (admitted (imageState f)))
+      (laws.iff-and (laws.iff-not-lt (length f) 5) (laws.iff-and (laws.iff-eq (valueAt f 0 1) 1) (laws.iff-and matching laws.iff-same))))
+
+-- ---- all of them
+
+pub reply-1 : Reply1
+reply-1 = record { step-1 = of-step-1; exception-1 = of-exception-1; interrupt-1 = of-interrupt-1; rte-1 = of-rte-1; push32-1 = of-push-1; pop32-1 = of-pop-1 }
+
+pub reply-2 : Reply2
+reply-2 = record {
+  step-2 = of-step-2;
+  exception-2 = of-exception-2;
+  interrupt-2 = of-interrupt-2;
+  rte-2 = of-rte-2;
+  push32-2 = of-push-2;
+  pop32-2 = of-pop-2;
+  set-sr-2 = λ s v. rw (set-sr-number s v) (not-2 s);
+  ipl-2 = λ s. rw (told-number s (maskOf (s .sr))) (not-2 s);
+  supervisor-2 = λ s. rw (told-number s _) (not-2 s);
+}
+
+pub reply-3 : Reply3
+reply-3 = record { step-3 = of-step-3 }
+
+pub reply-4 : Reply4
+reply-4 = record { exception-4 = of-exception-4; interrupt-4 = of-interrupt-4; rte-4 = of-rte-4; push32-4 = of-push-4; pop32-4 = of-pop-4 }
+
+pub reply-5 : Reply5
+reply-5 = record { step-5 = of-step-5 }
+
+pub reply-6 : Reply6
+reply-6 = record {
+  exception-6 = λ s m vector pc level. laws.iff-trans (of-exception-6 s m vector pc (To level)) (laws.iff-and laws.iff-same (laws.iff-not-lt level 8));
+  exception-kept-6 = λ s m vector pc e. false≢true (sym (of-exception-6 s m vector pc Kept .0 e .1));
+  interrupt-6 = of-interrupt-6;
+}
+
+pub reply-7 : Reply7
+reply-7 = record { interrupt-7 = of-interrupt-7 }
+
+pub reply-8-and-9 : Reply8And9
+reply-8-and-9 = record {
+  read-block-9 = of-read-9;
+  read-block-8 = of-read-8;
+  read-block-2 = of-read-2;
+  store-block-9 = λ s b. of-store-9 b s;
+  store-block-2 = λ s b. of-store-2 b s;
+  image-9 = of-image-9;
+  image-8 = of-image-8;
+  image-2 = of-image-2;
+}
+
+pub no-others : NoOthers
+no-others = record { step-to-5 = step-number }

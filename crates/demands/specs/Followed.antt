@@ -1,0 +1,106 @@
+-- Which row a step follows. Document: "Opcode rows, value/fixed bits".
+--
+-- A step that is done has fetched a word at its program counter. Of the rows that fit the word, one has the most fixed bits, and only
+-- one; any two rows that fit it are nested, one having all the other's fixed bits and more. What the step did is what that row's
+-- instruction says, and the row's line is the word's. Assumes nothing.
+use Prim.Native.Nat.{ℕ, _+_, _/_, _%_, _≤_, _<_}
+use mathlib.Core.Path.{_≡_, refl, ap, _∙_}
+use mathlib.Core.List.{List, [], _∷_}
+use native.Mathlib.Omega.{arith}
+use lib.Bits.{bitAnd}
+use lib.ListN.{length, getD}
+use borrow.Author.Tests.{leb-true}
+use Rattle.manual.specs.declared.Cpu.{Cpu}
+use Rattle.manual.specs.declared.Emac.{Emac}
+use Rattle.manual.specs.declared.Change.{Change}
+use Rattle.manual.specs.declared.Size.the-variants.{Word}
+use Rattle.manual.specs.declared.Reply.the-variants.{Done}
+use Rattle.manual.specs.Memory.{numberAt}
+use Rattle.manual.specs.Change.{notCarried}
+use Rattle.instructions.specs.Rows.{rowCount, value, mask, fixedBits, IsRow, rowOf}
+use Rattle.instructions.specs.Line0.{line0}
+use Rattle.instructions.specs.Moves.{line1, line2, line3}
+use Rattle.instructions.specs.Line4.{line4}
+use Rattle.instructions.specs.Line5.{line5}
+use Rattle.instructions.specs.Line6.{line6}
+use Rattle.instructions.specs.Line7.{line7}
+use Rattle.instructions.specs.Line9D.{line9, lineD}
+use Rattle.instructions.specs.LineA.{lineA}
+use Rattle.instructions.specs.LineB.{lineB}
+use Rattle.instructions.specs.LineC.{lineC}
+use Rattle.instructions.specs.LineE.{lineE}
+use Rattle.instructions.specs.LineF.{lineF}
+use Rattle.instructions.specs.Perform.{perform}
+use Rattle.instructions.specs.Step.{instruction, step}
+use Rattle.memory.specs.MemoryLaws.{value-lt}
+use Rattle.rows.specs.RowLaws.{rowOf-lt, rowOf-fits, rowOf-is, unique, nested-rows, in-line}
+use Rattle.demands.specs.StepLaws as steps
+
+-- the instruction of a row, of the line that the row's value has: what the word op at `at` changes
+unfoldable pub ofRow : ℕ → List ℕ → ℕ → ℕ → ℕ → Emac → List ℕ → ℕ → Change
+ofRow row g at sr other e m op =
+    getD
+    (line0 row g at sr m op ∷
+    line1 row g at sr m op ∷
+    line2 row g at sr m op ∷
+    line3 row g at sr m op ∷
+    line4 row g at sr other m op ∷
+    line5 row g at sr m op ∷
+    line6 row g at sr m op ∷
+    line7 row g at sr m op ∷
+    notCarried ∷
+    line9 row g at sr m op ∷
+    lineA row g at sr e m op ∷
+    lineB row g at sr m op ∷
+    lineC row g at sr m op ∷
+    lineD row g at sr m op ∷
+    lineE row g at sr op ∷
+    [])
+    (value row / 0x1000) (lineF row g at sr m op)
+
+-- the step from s and m, at the word op, followed the row r
+pub record Followed (s : Cpu) (m : List ℕ) (op r : ℕ) : Type 0 where
+  pub fetched : s .pc + 2 ≤ length m
+  pub is-row : r < rowCount
+  pub fits : bitAnd op (mask r) ≡ value r
+  pub most : (q : ℕ) → q < rowCount → bitAnd op (mask q) ≡ value q → fixedBits q ≤ fixedBits r
+  pub only : (q : ℕ) → IsRow op q → q ≡ r
+  pub nested : (i j : ℕ) → i < j → j < rowCount → bitAnd op (mask i) ≡ value i → bitAnd op (mask j) ≡ value j
+      → (bitAnd (mask i) (mask j) ≡ mask j) × (fixedBits j < fixedBits i)
+  pub line : value r / 0x1000 ≡ op / 0x1000
+  pub performed : step s m ≡ perform s (ofRow r (s .r) (s .pc) (s .sr) (s .other) (s .emac) m op) m
+
+abbrev pub StepsFollowRows : Type 0
+StepsFollowRows =
+    (s : Cpu) (m : List ℕ) → ((j : ℕ) → getD m j 0 < 256) → step s m .stepped .reply ≡ Done
+    → let op : ℕ = numberAt m (s .pc) Word in
+    Followed s m op (rowOf op)
+
+-- ---- the proof
+
+of-row : (g : List ℕ) (at sr other : ℕ) (e : Emac) (m : List ℕ) (op : ℕ) → value (rowOf op) / 0x1000 ≡ op / 0x1000 → op < 0x1_0000
+    → instruction g at sr other e m op ≡ ofRow (rowOf op) g at sr other e m op
+unfolding instruction ofRow
+of-row g at sr other e m op h small =
+    let l : op / 0x1000 % 16 ≡ value (rowOf op) / 0x1000 = omega arith in
+    rw l
+
+pub steps-follow-rows : StepsFollowRows
+steps-follow-rows s m all done =
+    let op : ℕ = numberAt m (s .pc) Word in
+    let small : op < 0x1_0000 = value-lt m (s .pc) 2 all in
+    let d : steps.Stepped s m = steps.stepped s m done in
+    let i : IsRow op (rowOf op) = rowOf-is op small in
+    let l : value (rowOf op) / 0x1000 ≡ op / 0x1000 = in-line op (rowOf op) small (rowOf-lt op) (rowOf-fits op small) .0 in
+    record {
+      fetched = leb-true _ _ (d .fetch);
+      is-row = i .isRow;
+      fits = i .fitting;
+      most = i .most;
+      only = λ q h. unique op q (rowOf op) h i;
+      nested = λ a b. nested-rows op a b;
+      line = l;
+      performed = d .same
+          ∙ ap (λ (c : Change). perform s c m)
+          (steps.fetched (s .r) (s .pc) (s .sr) (s .other) (s .emac) m op (d .fetch) refl ∙ of-row (s .r) (s .pc) (s .sr) (s .other) (s .emac) m op l small);
+    }

@@ -1,0 +1,12 @@
+pub mod EntryLaws
+pub mod StepLaws
+pub mod Undone
+pub mod ValueLaws
+pub mod Nesting
+pub mod Refusals
+pub mod Runs
+pub mod BodyLaws
+pub mod ReplyLaws
+pub mod Exact
+pub mod Handmade
+pub mod Followed

@@ -1,0 +1,459 @@
+-- Entries nest. Document: demand 3.
+--
+-- Of any number of entries, each from the state that the one before left, the returns in reverse order give back each level's
+-- registers. Between them, any work may run that keeps S, CACR bit 5, A7, the other pointer and the frames of the entries not
+-- yet returned from. And with nothing run between, every other register but stopped, and every byte outside the frames, is
+-- unchanged when the last return is done. Assumes nothing.
+use Prim.Native.Nat.{ℕ, _+_, _/_, _%_, _^_, _≤_, _<_}
+use mathlib.Core.Path.{_≡_, refl, sym, ap, _∙_}
+use mathlib.Core.Bool.{Bool, true, false, _&&_}
+use mathlib.Core.List.{List, [], _∷_}
+use mathlib.Core.Logic.{_⊎_, ⊎-elim, inl, inr}
+use native.Mathlib.Omega.{arith}
+use lib.ListN.{length, getD, set}
+use lib.Seq.{set-set, set-getD}
+use lib.Dec.{eqb}
+use borrow.Author.Tests.{ltb-false}
+use Rattle.manual.specs.declared.Cpu.{Cpu}
+use Rattle.manual.specs.declared.Level.{Level}
+use Rattle.manual.specs.declared.Reply.the-variants.{Done}
+use Rattle.manual.specs.Word.{plus, minus}
+use Rattle.manual.specs.Registers.{addressOf, withAddress, withPc, withSr, withOther, withStopped}
+use Rattle.manual.specs.Reply.{Outcome, completed}
+use Rattle.manual.specs.Admitted.{status, admitted, tooLong}
+use Rattle.manual.specs.Exceptions.{supervisor, twoStacks, handling, pcPlace, framePlace, framed, handlerState}
+use Rattle.word.specs.WordLaws.{minus-below}
+use Rattle.memory.specs.MemoryLaws.{byte-store, length-store, value-lt}
+use Rattle.exceptions.specs.AdmittedLaws.{admitted-status, pc-admitted, entered-admitted, left-admitted}
+use Rattle.demands.specs.EntryLaws as laws
+use Rattle.demands.specs.ValueLaws as values
+use Rattle.demands.specs.Undone.{Values, Enters, Returns, AsLeft, Back, Undoes, Way, way, WayBack, way-back, swapsIn, spIn, turned, Left, way-left, Named, named, undoneState, sp-long, as-long, left-undone, undone-back, entry-is-undone}
+
+-- an entry that has not been returned from: the state, the memory and the program counter that were handed to it, and its answer
+pub record Pending : Type 0 where
+  pub state : Cpu
+  pub memory : List ℕ
+  pub pc : ℕ
+  pub answer : Outcome
+
+-- where its frame is: A7 as it left it
+abbrev pub frameOf : Pending → ℕ
+frameOf e = addressOf (e .answer .stepped .cpu .r) 7
+
+-- the eight bytes of each frame are the same in m and m′
+abbrev pub SameFrames : List Pending → List ℕ → List ℕ → Type 0
+SameFrames [] m m′ = Unit {0}
+SameFrames (e ∷ es) m m′ = ((j : ℕ) → j < 8 → getD m′ (plus (frameOf e) j) 0 ≡ getD m (plus (frameOf e) j) 0) × SameFrames es m m′
+
+-- the work from s and m to s′ and m′ keeps what the pending entries need
+pub record Keeps (es : List Pending) (s : Cpu) (m : List ℕ) (s′ : Cpu) (m′ : List ℕ) : Type 0 where
+  pub as-much : length m′ ≡ length m
+  pub same-s : supervisor (s′ .sr) ≡ supervisor (s .sr)
+  pub same-cacr : twoStacks s′ ≡ twoStacks s
+  pub same-a7 : addressOf (s′ .r) 7 ≡ addressOf (s .r) 7
+  pub same-other : s′ .other ≡ s .other
+  pub same-frames : SameFrames es m m′
+
+-- what can be reached, with which entries pending, the latest first
+pub data Reached : List Pending → Cpu → List ℕ → Type 0 where
+  start : {s : Cpu} {m : List ℕ} → Values s m → admitted s ≡ true → Reached [] s m
+  entry : {es : List Pending} {s : Cpu} {m : List ℕ} {pc : ℕ} {answer : Outcome} → Reached es s m → Enters s m pc answer → answer .stepped .reply ≡ Done
+      → Reached (record { state = s; memory = m; pc = pc; answer = answer } ∷ es) (answer .stepped .cpu) (answer .memory)
+  work : {es : List Pending} {s s′ : Cpu} {m m′ : List ℕ} → Reached es s m → Values s′ m′ → admitted s′ ≡ true → Keeps es s m s′ m′ → Reached es s′ m′
+  return : {e : Pending} {es : List Pending} {s : Cpu} {m : List ℕ} {answer : Outcome} → Reached (e ∷ es) s m → Returns s m answer
+      → Reached es (answer .stepped .cpu) (answer .memory)
+
+-- whatever was reached, a return succeeds and gives back the registers that were handed to the latest entry not yet returned from
+abbrev pub EntriesNest : Type 0
+EntriesNest =
+    (e : Pending) (es : List Pending) (s : Cpu) (m : List ℕ) (answer : Outcome) → Reached (e ∷ es) s m → Returns s m answer
+    → Undoes (e .state) (e .pc) m answer
+
+-- entries alone, from s and m
+pub data Entries (s : Cpu) (m : List ℕ) : List Pending → Cpu → List ℕ → Type 0 where
+  none : Entries s m [] s m
+  entry : {es : List Pending} {s₁ : Cpu} {m₁ : List ℕ} {pc : ℕ} {answer : Outcome} → Entries s m es s₁ m₁ → Enters s₁ m₁ pc answer → answer .stepped .reply ≡ Done
+      → Entries s m (record { state = s₁; memory = m₁; pc = pc; answer = answer } ∷ es) (answer .stepped .cpu) (answer .memory)
+
+-- as many returns, from s₁ and m₁ to s₂ and m₂
+pub data Unwound (s₂ : Cpu) (m₂ : List ℕ) : List Pending → Cpu → List ℕ → Type 0 where
+  none : Unwound s₂ m₂ [] s₂ m₂
+  return : {e : Pending} {es : List Pending} {s₁ : Cpu} {m₁ : List ℕ} {answer : Outcome} → Returns s₁ m₁ answer
+      → Unwound s₂ m₂ es (answer .stepped .cpu) (answer .memory) → Unwound s₂ m₂ (e ∷ es) s₁ m₁
+
+-- every register but the program counter and stopped
+pub record SameRegisters (s s₂ : Cpu) : Type 0 where
+  pub same-r : s₂ .r ≡ s .r
+  pub same-sr : s₂ .sr ≡ s .sr
+  pub same-other : s₂ .other ≡ s .other
+  pub same-vbr : s₂ .vbr ≡ s .vbr
+  pub same-cacr : s₂ .cacr ≡ s .cacr
+  pub same-emac : s₂ .emac ≡ s .emac
+
+-- the byte at j is in none of the frames
+abbrev pub OutsideFrames : List Pending → ℕ → Type 0
+OutsideFrames [] j = Unit {0}
+OutsideFrames (e ∷ es) j = ((j < frameOf e) ⊎ (frameOf e + 8 ≤ j)) × OutsideFrames es j
+
+abbrev pub NothingBetween : Type 0
+NothingBetween =
+    (s : Cpu) (m : List ℕ) (es : List Pending) (s₁ : Cpu) (m₁ : List ℕ) (s₂ : Cpu) (m₂ : List ℕ) → Values s m → admitted s ≡ true
+    → Entries s m es s₁ m₁ → Unwound s₂ m₂ es s₁ m₁
+    → SameRegisters s s₂ × ((length m₂ ≡ length m) × ((j : ℕ) → OutsideFrames es j → getD m₂ j 0 ≡ getD m j 0))
+
+-- ---- the frame of an entry that was done: below the pointer, and within memory
+
+module _ (sp n : ℕ) (f : sp < 2 ^ 32) (short : n ≤ 2 ^ 24) (hi : pcPlace sp + 4 ≤ n) (lo : framePlace sp + 4 ≤ n) where
+  frame-below : framePlace sp + 8 ≤ sp
+  unfolding minus
+  frame-below = omega arith
+
+  frame-low : framePlace sp ≤ 2 ^ 24
+  frame-low = omega arith
+
+  pc-next : pcPlace sp ≡ framePlace sp + 4
+  unfolding minus
+  pc-next = omega arith
+
+  framed-byte : (m : List ℕ) (vector sr pc j : ℕ) → (j < framePlace sp) ⊎ (framePlace sp + 8 ≤ j) → getD (framed m sp vector sr pc) j 0 ≡ getD m j 0
+  framed-byte m vector sr pc j out =
+      let e : pcPlace sp ≡ framePlace sp + 4 = pc-next in
+      byte-store _ (framePlace sp) 4 _ j (⊎-elim (λ h. inl h) (λ h. inr (omega arith)) out)
+      ∙ byte-store m (pcPlace sp) 4 pc j (⊎-elim (λ h. inl (omega arith)) (λ h. inr (omega arith)) out)
+
+-- all frames are at x or above it, and within memory
+abbrev Above : ℕ → List Pending → Type 0
+Above x [] = Unit {0}
+Above x (e ∷ es) = ((x ≤ frameOf e) × (frameOf e ≤ 2 ^ 24)) × Above x es
+
+above-less : (x y : ℕ) (es : List Pending) → x ≤ y → Above y es → Above x es
+above-less x y [] h a = tt
+above-less x y (e ∷ es) h a = ((omega (arith, a .0 .0), a .0 .1), above-less x y es h (a .1))
+
+plus-small : (a j : ℕ) → a ≤ 2 ^ 24 → j < 8 → plus a j ≡ a + j
+unfolding plus
+plus-small a j h k = omega arith
+
+-- bytes that are the same from x on are the same in the frames there
+frames-same : (x : ℕ) (es : List Pending) (m m′ : List ℕ) → Above x es → ((j : ℕ) → x ≤ j → getD m′ j 0 ≡ getD m j 0) → SameFrames es m m′
+frames-same x [] m m′ a same = tt
+frames-same x (e ∷ es) m m′ a same =
+    ((λ j h. rw (plus-small (frameOf e) j (a .0 .1) h) (same (frameOf e + j) (omega (arith, a .0 .0)))), frames-same x es m m′ (a .1) same)
+
+frames-trans : (es : List Pending) (m m′ m″ : List ℕ) → SameFrames es m m′ → SameFrames es m′ m″ → SameFrames es m m″
+frames-trans [] m m′ m″ a b = tt
+frames-trans (e ∷ es) m m′ m″ a b = ((λ j h. b .0 j h ∙ a .0 j h), frames-trans es m m′ m″ (a .1) (b .1))
+
+-- ---- what holds wherever is reached
+
+record Top (e : Pending) (es : List Pending) (s : Cpu) (m : List ℕ) : Type 0 where
+  typed : Values s m
+  taken : admitted s ≡ true
+  kept : AsLeft (e .answer .stepped .cpu) (e .answer .memory) s m
+  given : Values (e .state) (e .memory)
+  enters : Enters (e .state) (e .memory) (e .pc) (e .answer)
+  done : e .answer .stepped .reply ≡ Done
+  frames : SameFrames es (e .memory) m
+  above : Above (frameOf e) es
+  low : frameOf e ≤ 2 ^ 24
+
+Holds : List Pending → Cpu → List ℕ → Type 0
+Holds [] s m = Values s m × (admitted s ≡ true)
+Holds (e ∷ es) s m = Top e es s m × Holds es (e .state) (e .memory)
+
+typed-of : (es : List Pending) (s : Cpu) (m : List ℕ) → Holds es s m → Values s m
+unfolding Holds
+typed-of [] s m h = h .0
+typed-of (e ∷ es) s m h = h .0 .typed
+
+taken-of : (es : List Pending) (s : Cpu) (m : List ℕ) → Holds es s m → admitted s ≡ true
+unfolding Holds
+taken-of [] s m h = h .1
+taken-of (e ∷ es) s m h = h .0 .taken
+
+-- an entry in a handler takes A7 as its pointer
+no-swap : (s : Cpu) (level : Level) → supervisor (s .sr) ≡ true → swapsIn s level ≡ false
+no-swap s level h = rw (h, laws.handler-s level (s .sr)) (never (twoStacks s))
+  where
+    never : (b : Bool) → (b && false) ≡ false
+    never true = refl
+    never false = refl
+
+sp-under : (es : List Pending) (s : Cpu) (m : List ℕ) (level : Level) → Holds es s m → Above (spIn s level) es
+unfolding Holds
+sp-under [] s m level h = tt
+sp-under (e ∷ es) s m level h =
+    let t : Top e es s m = h .0 in
+    let w : Way (e .state) (e .memory) (e .pc) (e .answer) = way _ _ _ _ (t .given) (t .enters) (t .done) in
+    let l : Left (e .state) (e .memory) (w .at) (e .pc) (w .level) (w .vector) (e .answer .stepped .cpu) (e .answer .memory) = way-left _ _ _ _ (t .given .sixteen) w (t .done) in
+    let n : Named (e .state) (w .level) (e .answer .stepped .cpu) = named _ _ _ _ _ _ _ _ (t .given .sixteen) l in
+    let x : spIn s level ≡ frameOf e = rw (no-swap s level (t .kept .same-s ∙ n .in-s)) (t .kept .same-a7) in
+    rw x ((omega arith, t .low), t .above)
+
+-- ---- an entry
+
+short-of : (m : List ℕ) → tooLong m ≡ false → length m ≤ 2 ^ 24
+short-of m h = ltb-false _ _ h
+
+record Entered (s : Cpu) (m : List ℕ) (es : List Pending) (answer : Outcome) : Type 0 where
+  typed : Values (answer .stepped .cpu) (answer .memory)
+  taken : admitted (answer .stepped .cpu) ≡ true
+  frames : SameFrames es m (answer .memory)
+  above : Above (addressOf (answer .stepped .cpu .r) 7) es
+  low : addressOf (answer .stepped .cpu .r) 7 ≤ 2 ^ 24
+  as-long : length (answer .memory) ≡ length m
+  outside : (j : ℕ) → (j < addressOf (answer .stepped .cpu .r) 7) ⊎ (addressOf (answer .stepped .cpu .r) 7 + 8 ≤ j) → getD (answer .memory) j 0 ≡ getD m j 0
+
+module _ (es : List Pending) (s : Cpu) (m : List ℕ) (pc : ℕ) (answer : Outcome) (typed : Values s m) (w : Way s m pc answer)
+    (done : answer .stepped .reply ≡ Done) (under : Above (spIn s (w .level)) es) where
+  entered-so : Entered s m es answer
+  entered-so =
+      let level : Level = w .level in
+      let sp : ℕ = spIn s level in
+      let l : Left s m (w .at) pc level (w .vector) (answer .stepped .cpu) (answer .memory) = way-left _ _ _ _ (typed .sixteen) w done in
+      let n : Named s level (answer .stepped .cpu) = named _ _ _ _ _ _ _ _ (typed .sixteen) l in
+      let f : sp < 2 ^ 32 = sp-long s m level typed in
+      let short : length m ≤ 2 ^ 24 = short-of m (w .short) in
+      let below : framePlace sp + 8 ≤ sp = frame-below sp (length m) f short (l .hi) (l .lo) in
+      let byte : (j : ℕ) → (j < framePlace sp) ⊎ (framePlace sp + 8 ≤ j) → getD (answer .memory) j 0 ≡ getD m j 0 =
+      λ j out. ap (λ (x : List ℕ). getD x j 0) (l .memory-is) ∙ framed-byte sp (length m) f short (l .hi) (l .lo) m (w .vector) (s .sr) pc j out
+      in
+      let small : (j : ℕ) → getD (answer .memory) j 0 < 256 = rw (l .memory-is) (values.framed-bytes m sp (w .vector) (s .sr) pc (typed .bytes)) in
+      let handler : l .handler < 2 ^ 32 = rw (l .handler-is) (value-lt (answer .memory) (l .place) 4 small) in
+      record {
+        typed = values.memory-values _ m (rw (l .state-is) (values.handler-values s m (w .at) level (framePlace sp) (l .handler) typed (w .at-long) (minus-below _ 4) handler)) _ small;
+        taken = rw (w .is) (entered-admitted s (withPc (w .at) s) level (w .vector) pc m (w .taken) (pc-admitted (w .at) s (w .taken)));
+        frames = frames-same sp es m (answer .memory) under (λ j h. byte j (inr (omega arith)));
+        above = rw (n .at-frame) (above-less (framePlace sp) sp es (omega arith) under);
+        low = rw (n .at-frame) (frame-low sp (length m) f short (l .hi) (l .lo));
+        as-long = ap length (l .memory-is) ∙ simp length-store;
+        outside = rw (n .at-frame) byte;
+      }
+
+abbrev pending : Cpu → List ℕ → ℕ → Outcome → Pending
+pending s m pc answer = record { state = s; memory = m; pc = pc; answer = answer }
+
+entry-holds : (es : List Pending) (s : Cpu) (m : List ℕ) (pc : ℕ) (answer : Outcome) → Holds es s m → Enters s m pc answer → answer .stepped .reply ≡ Done
+    → Holds (pending s m pc answer ∷ es) (answer .stepped .cpu) (answer .memory)
+unfolding Holds
+entry-holds es s m pc answer h enters done =
+    let typed : Values s m = typed-of es s m h in
+    let w : Way s m pc answer = way s m pc answer typed enters done in
+    let n : Entered s m es answer = entered-so es s m pc answer typed w done (sp-under es s m (w .level) h) in (
+      record {
+        typed = n .typed;
+        taken = n .taken;
+        kept = record { as-much = refl; same-s = refl; same-cacr = refl; same-a7 = refl; same-other = refl; same-frame = λ j k. refl };
+        given = typed;
+        enters = enters;
+        done = done;
+        frames = n .frames;
+        above = n .above;
+        low = n .low;
+      },
+      h,
+    )
+
+-- ---- work
+
+work-holds : (es : List Pending) (s : Cpu) (m : List ℕ) (s′ : Cpu) (m′ : List ℕ) → Holds es s m → Values s′ m′ → admitted s′ ≡ true → Keeps es s m s′ m′ → Holds es s′ m′
+unfolding Holds
+work-holds [] s m s′ m′ h typed taken k = (typed, taken)
+work-holds (e ∷ es) s m s′ m′ h typed taken k =
+    let t : Top e es s m = h .0 in (
+      record {
+        typed = typed;
+        taken = taken;
+        kept = record {
+          as-much = k .as-much ∙ t .kept .as-much;
+          same-s = k .same-s ∙ t .kept .same-s;
+          same-cacr = k .same-cacr ∙ t .kept .same-cacr;
+          same-a7 = k .same-a7 ∙ t .kept .same-a7;
+          same-other = k .same-other ∙ t .kept .same-other;
+          same-frame = λ j l. k .same-frames .0 j l ∙ t .kept .same-frame j l;
+        };
+        given = t .given;
+        enters = t .enters;
+        done = t .done;
+        frames = frames-trans es (e .memory) m m′ (t .frames) (k .same-frames .1);
+        above = t .above;
+        low = t .low;
+      },
+      h .1,
+    )
+
+-- ---- every register but A7, SR, the other pointer, the program counter and stopped
+
+record Others (s s′ : Cpu) : Type 0 where
+  but-a7 : set (s′ .r) 15 0 ≡ set (s .r) 15 0
+  vbr : s′ .vbr ≡ s .vbr
+  cacr : s′ .cacr ≡ s .cacr
+  emac : s′ .emac ≡ s .emac
+
+others-trans : (s s′ s″ : Cpu) → Others s s′ → Others s′ s″ → Others s s″
+others-trans s s′ s″ a b =
+    record { but-a7 = b .but-a7 ∙ a .but-a7; vbr = b .vbr ∙ a .vbr; cacr = b .cacr ∙ a .cacr; emac = b .emac ∙ a .emac }
+
+after-others : (b : Bool) (v : ℕ) (s : Cpu) → Others s (laws.after b v s)
+unfolding withSr withOther withAddress
+after-others true v s = record { but-a7 = set-set (s .r) 15 (s .other) 0; vbr = refl; cacr = refl; emac = refl }
+after-others false v s = record { but-a7 = refl; vbr = refl; cacr = refl; emac = refl }
+
+address-others : (v : ℕ) (s : Cpu) → Others s (withAddress 7 v s)
+unfolding withAddress
+address-others v s = record { but-a7 = set-set (s .r) 15 v 0; vbr = refl; cacr = refl; emac = refl }
+
+handler-others : (s : Cpu) (at : ℕ) (level : Level) (frame handler : ℕ) → Others s (handlerState (turned (withPc at s) level) frame handler)
+unfolding handlerState withStopped withPc
+handler-others s at level frame handler =
+    let t : Cpu = turned (withPc at s) level in
+    let a : Others (withPc at s) t = after-others (swapsIn (withPc at s) level) (status (handling level (s .sr))) (withPc at s) in
+    let b : Others t (withAddress 7 frame t) = address-others frame t in
+    record { but-a7 = b .but-a7 ∙ a .but-a7; vbr = b .vbr ∙ a .vbr; cacr = b .cacr ∙ a .cacr; emac = b .emac ∙ a .emac }
+
+undone-others : (s : Cpu) (level : Level) (at pc : ℕ) (s₂ : Cpu) → Others s₂ (undoneState s level at pc s₂)
+unfolding withPc
+undone-others s level at pc s₂ =
+    let t : Cpu = withAddress 7 (spIn s level) (withPc at s₂) in
+    let a : Others (withPc at s₂) t = address-others (spIn s level) (withPc at s₂) in
+    let b : Others t (laws.after (swapsIn s level) (s .sr) t) = after-others (swapsIn s level) (s .sr) t in
+    record { but-a7 = b .but-a7 ∙ a .but-a7; vbr = b .vbr ∙ a .vbr; cacr = b .cacr ∙ a .cacr; emac = b .emac ∙ a .emac }
+
+-- registers that are the same but for A7, and have the same A7
+all-registers : (g g′ : List ℕ) → set g′ 15 0 ≡ set g 15 0 → addressOf g′ 7 ≡ addressOf g 7 → g′ ≡ g
+unfolding addressOf
+all-registers g g′ h a =
+    sym (set-set g′ 15 0 (getD g′ 15 0) ∙ set-getD g′ 15 0)
+    ∙ ap (λ (x : List ℕ). set x 15 (getD g′ 15 0)) h
+    ∙ ap (λ (x : ℕ). set (set g 15 0) 15 x) a
+    ∙ set-set g 15 0 (getD g 15 0)
+    ∙ set-getD g 15 0
+
+-- ---- a return
+
+record Gone (e : Pending) (s : Cpu) (m : List ℕ) (answer : Outcome) : Type 0 where
+  level : Level
+  at : ℕ
+  is : answer ≡ completed (undoneState (e .state) level at (e .pc) s) 0 m
+  typed : Values (undoneState (e .state) level at (e .pc) s) m
+  taken : admitted (answer .stepped .cpu) ≡ true
+  back : Back (e .state) (e .pc) (undoneState (e .state) level at (e .pc) s)
+  cacr : twoStacks s ≡ twoStacks (e .state)
+  as-much : length m ≡ length (e .memory)
+  others : Others (e .state) (e .answer .stepped .cpu)
+
+gone : (e : Pending) (es : List Pending) (s : Cpu) (m : List ℕ) (answer : Outcome) → Top e es s m → Returns s m answer → Gone e s m answer
+gone e es s m answer t returns =
+    let given : Values (e .state) (e .memory) = t .given in
+    let w : Way (e .state) (e .memory) (e .pc) (e .answer) = way _ _ _ _ given (t .enters) (t .done) in
+    let l : Left (e .state) (e .memory) (w .at) (e .pc) (w .level) (w .vector) (e .answer .stepped .cpu) (e .answer .memory) = way-left _ _ _ _ (given .sixteen) w (t .done) in
+    let n : Named (e .state) (w .level) (e .answer .stepped .cpu) = named _ _ _ _ _ _ _ _ (given .sixteen) l in
+    let q : status (e .state .sr) ≡ e .state .sr = admitted-status (e .state) (w .taken) in
+    let long : length m ≡ length (e .memory) = as-long (e .state) (e .memory) (w .at) (e .pc) (w .level) (w .vector) given q (w .small) (w .fits) _ _ l s m (t .typed .sixteen) (t .kept) in
+    let short : tooLong m ≡ false = rw long (w .short) in
+    let r : WayBack s m answer = way-back s m answer (t .typed) short (t .taken) (t .kept .same-s ∙ n .in-s) returns in
+    record {
+      level = w .level;
+      at = r .at;
+      is = r .is ∙ left-undone (e .state) (e .memory) (w .at) (e .pc) (w .level) (w .vector) given q (w .small) (w .fits) _ _ l s m (t .typed .sixteen) (t .kept) s (r .at);
+      typed = values.undone-values (e .state) (e .memory) (w .level) (r .at) (e .pc) s m given (t .typed) (r .at-long) (w .fits);
+      taken = rw (r .is) (left-admitted s (withPc (r .at) s) m (t .taken) (pc-admitted (r .at) s (t .taken)));
+      back = undone-back (e .state) (e .memory) (w .at) (e .pc) (w .level) (w .vector) given q (w .small) (w .fits) _ _ l s m (t .typed .sixteen) (t .kept) (r .at);
+      cacr = t .kept .same-cacr ∙ n .cacr-is;
+      as-much = long;
+      others = rw (l .state-is) (handler-others (e .state) (w .at) (w .level) _ (l .handler));
+    }
+
+undone-cacr : (s : Cpu) (level : Level) (at pc : ℕ) (s₂ : Cpu) → undoneState s level at pc s₂ .cacr ≡ s₂ .cacr
+unfolding withPc withAddress
+undone-cacr s level at pc s₂ = laws.cacr-after (s .sr) (withAddress 7 (spIn s level) (withPc at s₂)) (swapsIn s level)
+
+return-holds : (e : Pending) (es : List Pending) (s : Cpu) (m : List ℕ) (answer : Outcome) → Holds (e ∷ es) s m → Returns s m answer
+    → Holds es (answer .stepped .cpu) (answer .memory)
+unfolding Holds
+return-holds e es s m answer h returns =
+    let t : Top e es s m = h .0 in
+    let g : Gone e s m answer = gone e es s m answer t returns in
+    let s₃ : Cpu = undoneState (e .state) (g .level) (g .at) (e .pc) s in
+    let taken : admitted s₃ ≡ true = rw (g .is) at (g .taken) in
+    let two : twoStacks s₃ ≡ twoStacks (e .state) = ap (λ (x : ℕ). eqb (x / 0x20 % 2) 1) (undone-cacr (e .state) (g .level) (g .at) (e .pc) s) ∙ g .cacr in
+    let k : Keeps es (e .state) (e .memory) s₃ m = record {
+      as-much = g .as-much;
+      same-s = ap supervisor (g .back .sr-back);
+      same-cacr = two;
+      same-a7 = g .back .a7-back;
+      same-other = g .back .other-back;
+      same-frames = t .frames;
+    }
+    in
+    rw (g .is) (work-holds es (e .state) (e .memory) s₃ m (h .1) (g .typed) taken k)
+
+holds : (es : List Pending) (s : Cpu) (m : List ℕ) → Reached es s m → Holds es s m
+unfolding Holds
+holds es s m (start typed taken) = (typed, taken)
+holds es s m (entry r enters done) = entry-holds _ _ _ _ _ (holds _ _ _ r) enters done
+holds es s m (work r typed taken k) = work-holds es _ _ s m (holds _ _ _ r) typed taken k
+holds es s m (return r returns) = return-holds _ es _ _ _ (holds _ _ _ r) returns
+
+pub entries-nest : EntriesNest
+unfolding Holds
+entries-nest e es s m answer r returns =
+    let t : Top e es s m = holds (e ∷ es) s m r .0 in
+    entry-is-undone (e .state) (e .memory) (e .pc) (e .answer) (t .given) (t .enters) (t .done) s m answer (t .typed) (t .taken) (t .kept) returns
+
+-- ---- with nothing run between
+
+entries-hold : (s : Cpu) (m : List ℕ) (es : List Pending) (s₁ : Cpu) (m₁ : List ℕ) → Holds [] s m → Entries s m es s₁ m₁ → Holds es s₁ m₁
+entries-hold s m es s₁ m₁ h none = h
+entries-hold s m es s₁ m₁ h (entry r enters done) = entry-holds _ _ _ _ _ (entries-hold s m _ _ _ h r) enters done
+
+same-others : (s s′ : Cpu) → SameRegisters s s′ → Others s s′
+same-others s s′ r = record { but-a7 = ap (λ (x : List ℕ). set x 15 0) (r .same-r); vbr = r .same-vbr; cacr = r .same-cacr; emac = r .same-emac }
+
+-- a return on the state that the entry left, or one with the same registers
+return-same : (e : Pending) (s : Cpu) (m : List ℕ) (answer : Outcome) → Gone e s m answer → SameRegisters (e .answer .stepped .cpu) s
+    → SameRegisters (e .state) (answer .stepped .cpu)
+return-same e s m answer g r =
+    let s₃ : Cpu = undoneState (e .state) (g .level) (g .at) (e .pc) s in
+    let o : Others (e .state) s₃ = others-trans _ _ _ (g .others) (others-trans _ _ _ (same-others _ s r) (undone-others (e .state) (g .level) (g .at) (e .pc) s)) in
+    let x : SameRegisters (e .state) s₃ = record {
+      same-r = all-registers (e .state .r) (s₃ .r) (o .but-a7) (g .back .a7-back);
+      same-sr = g .back .sr-back;
+      same-other = g .back .other-back;
+      same-vbr = o .vbr;
+      same-cacr = o .cacr;
+      same-emac = o .emac;
+    }
+    in
+    rw (g .is) x
+
+unwind : (s : Cpu) (m : List ℕ) (es : List Pending) (s₁ : Cpu) (m₁ : List ℕ) (t : Cpu) (n : List ℕ) (s₂ : Cpu) (m₂ : List ℕ)
+    → Entries s m es s₁ m₁ → Holds es t n → SameRegisters s₁ t → Unwound s₂ m₂ es t n → SameRegisters s s₂ × (m₂ ≡ n)
+unfolding Holds
+unwind s m es s₁ m₁ t n s₂ m₂ none h r none = (r, refl)
+unwind s m es s₁ m₁ t n s₂ m₂ (entry {es = es′} {s₁ = s′} {m₁ = m′} {pc = pc} {answer = answer} chain enters done) h r (return {answer = b} returns rest) =
+    let e : Pending = pending s′ m′ pc answer in
+    let g : Gone e t n b = gone e es′ t n b (h .0) returns in
+    let u : SameRegisters s s₂ × (m₂ ≡ b .memory) =
+    unwind s m es′ s′ m′ (b .stepped .cpu) (b .memory) s₂ m₂ chain (return-holds e es′ t n b h returns) (return-same e t n b g r) rest
+    in
+    (u .0, u .1 ∙ ap (λ (x : Outcome). x .memory) (g .is))
+
+outside-entries : (s : Cpu) (m : List ℕ) (es : List Pending) (s₁ : Cpu) (m₁ : List ℕ) → Holds [] s m → Entries s m es s₁ m₁
+    → (length m₁ ≡ length m) × ((j : ℕ) → OutsideFrames es j → getD m₁ j 0 ≡ getD m j 0)
+outside-entries s m es s₁ m₁ h none = (refl, λ j o. refl)
+outside-entries s m es s₁ m₁ h (entry {es = es′} {s₁ = s′} {m₁ = m′} {pc = pc} {answer = answer} chain enters done) =
+    let i : Holds es′ s′ m′ = entries-hold s m es′ s′ m′ h chain in
+    let typed : Values s′ m′ = typed-of es′ s′ m′ i in
+    let w : Way s′ m′ pc answer = way s′ m′ pc answer typed enters done in
+    let n : Entered s′ m′ es′ answer = entered-so es′ s′ m′ pc answer typed w done (sp-under es′ s′ m′ (w .level) i) in
+    let u : (length m′ ≡ length m) × ((j : ℕ) → OutsideFrames es′ j → getD m′ j 0 ≡ getD m j 0) = outside-entries s m es′ s′ m′ h chain in
+    (n .as-long ∙ u .0, λ j o. n .outside j (o .0) ∙ u .1 j (o .1))
+
+pub nothing-between : NothingBetween
+unfolding Holds
+nothing-between s m es s₁ m₁ s₂ m₂ typed taken chain back =
+    let r : SameRegisters s₁ s₁ = record { same-r = refl; same-sr = refl; same-other = refl; same-vbr = refl; same-cacr = refl; same-emac = refl } in
+    let u : SameRegisters s s₂ × (m₂ ≡ m₁) = unwind s m es s₁ m₁ s₁ m₁ s₂ m₂ chain (entries-hold s m es s₁ m₁ (typed, taken) chain) r back in
+    let o : (length m₁ ≡ length m) × ((j : ℕ) → OutsideFrames es j → getD m₁ j 0 ≡ getD m j 0) = outside-entries s m es s₁ m₁ (typed, taken) chain in
+    (u .0, (ap length (u .1) ∙ o .0, λ j h. ap (λ (x : List ℕ). getD x j 0) (u .1) ∙ o .1 j h))

@@ -1,0 +1,226 @@
+-- A refused call changes nothing. Document: "Numbered replies".
+--
+-- For every call, every reply but 0 returns the state as given, memory as given and 0 for any other value. A step that is refused
+-- changes no byte. (A read of a state block is given no state: refused, it returns the fresh one.) Assumes nothing.
+use Prim.Native.Nat.{ℕ}
+use mathlib.Core.Path.{_≡_, refl}
+use mathlib.Core.Bool.{Bool, true, false, cond, _&&_}
+use mathlib.Core.List.{List}
+use lib.Dec.{eqb, ltb}
+use lib.ListN.{length}
+use Rattle.manual.specs.declared.Cpu.{Cpu}
+use Rattle.manual.specs.declared.Level.{Level}
+use Rattle.manual.specs.declared.Level.the-variants.{To}
+use Rattle.manual.specs.declared.Size.the-variants.{Long}
+use Rattle.manual.specs.declared.Reply.{Reply}
+use Rattle.manual.specs.declared.Reply.the-variants.{Done, TooLong, NotAdmitted, Stopped, NotInside, OutOfRange, Masked, WrongVersion, WrongLength}
+use Rattle.manual.specs.declared.Answer.{Answer}
+use Rattle.manual.specs.declared.Told.{Told}
+use Rattle.manual.specs.declared.Popped.{Popped}
+use Rattle.manual.specs.declared.Action.{Action}
+use Rattle.manual.specs.declared.Action.the-variants.{Nothing, Store, StoreMany, LoadMany, Enter, Return, Status, Stop, PushStatus, Halt, Other, Accumulate, SetAcc, SetExt, SetMacsr, SetMask, CopyAcc, ClearAcc, Refuse}
+use Rattle.manual.specs.declared.Change.{Change}
+use Rattle.manual.specs.Word.{bytes, plus, minus}
+use Rattle.manual.specs.Registers.{addressOf, applied}
+use Rattle.manual.specs.Memory.{inside, valueAt, numberAt, manyInside}
+use Rattle.manual.specs.Reply.{numberOf, Outcome, completed, unchanged, refusal}
+use Rattle.manual.specs.Admitted.{admitted, tooLong, checked}
+use Rattle.manual.specs.Differences.{vectorPlace}
+use Rattle.manual.specs.Exceptions.{setSr, handling, pcPlace, framePlace, framed, handlerState, entered, returned, left, levelTaken, masked, exception, interrupt, rte, push32, notPopped, pop32, setSrCall, told, ipl, supervisorCall}
+use Rattle.manual.specs.Block.{fresh, notRead, saysAdmitted, stateAt, readBlock, blockOf, Stored, storeBlock}
+use Rattle.instructions.specs.Perform.{statusPushed, act, perform}
+use Rattle.instructions.specs.Step.{execute, step}
+
+-- the reply is not 0
+abbrev pub NotZero : Reply → Type 0
+NotZero n = numberOf n ≡ 0 → ⊥
+
+-- if the reply is not 0, the state is s, memory is m and the vector is 0
+abbrev pub Unchanged : Cpu → List ℕ → Outcome → Type 0
+Unchanged s m o = NotZero (o .stepped .reply) → ((o .stepped .cpu ≡ s) × (o .memory ≡ m)) × (o .stepped .vector ≡ 0)
+
+pub record Refusals : Type 0 where
+  pub of-step : (s : Cpu) (m : List ℕ) → Unchanged s m (step s m)
+  pub of-perform : (s : Cpu) (c : Change) (m : List ℕ) → Unchanged s m (perform s c m)
+  pub of-exception : (s : Cpu) (m : List ℕ) (vector pc : ℕ) (level : Level) → Unchanged s m (exception s m vector pc level)
+  pub of-interrupt : (s : Cpu) (m : List ℕ) (vector level : ℕ) → Unchanged s m (interrupt s m vector level)
+  pub of-rte : (s : Cpu) (m : List ℕ) → Unchanged s m (rte s m)
+  pub of-push32 : (s : Cpu) (m : List ℕ) (v : ℕ) → Unchanged s m (push32 s m v)
+  pub of-pop32 : (s : Cpu) (m : List ℕ) → NotZero (pop32 s m .reply) → (pop32 s m .cpu ≡ s) × (pop32 s m .value ≡ 0)
+  pub of-set-sr : (s : Cpu) (v : ℕ) → NotZero (setSrCall s v .reply) → setSrCall s v .cpu ≡ s
+  pub of-ipl : (s : Cpu) → NotZero (ipl s .reply) → ipl s .value ≡ 0
+  pub of-supervisor : (s : Cpu) → NotZero (supervisorCall s .reply) → supervisorCall s .value ≡ 0
+  pub of-read-block : (b : List ℕ) → NotZero (readBlock b .reply) → readBlock b .cpu ≡ fresh
+  pub of-store-block : (s : Cpu) (b : List ℕ) → NotZero (storeBlock s b .reply) → storeBlock s b .bytes ≡ b
+
+-- ---- the proofs: each is a tree of tests, whose leaves are done or unchanged
+
+done-not : NotZero Done → ⊥
+unfolding numberOf
+done-not h = h refl
+
+module _ (given : Cpu) (m : List ℕ) where
+  either : (b : Bool) (x y : Outcome) → Unchanged given m x → Unchanged given m y → Unchanged given m (cond b x y)
+  either true x y p q = p
+  either false x y p q = q
+
+  done-kept : (s : Cpu) (n : ℕ) (m′ : List ℕ) → Unchanged given m (completed s n m′)
+  done-kept s n m′ h = absurd (done-not h)
+
+  same-kept : (n : Reply) → Unchanged given m (unchanged given n m)
+  unfolding refusal
+  same-kept n h = ((refl, refl), refl)
+
+  -- done where a test holds, and refused otherwise
+  tested : (b : Bool) (s : Cpu) (n : ℕ) (m′ : List ℕ) (r : Reply) → Unchanged given m (cond b (completed s n m′) (unchanged given r m))
+  tested b s n m′ r = either b (completed s n m′) (unchanged given r m) (done-kept s n m′) (same-kept r)
+
+  checked-kept : (o : Outcome) → Unchanged given m o → Unchanged given m (checked given m o)
+  checked-kept o h =
+      either (tooLong m) (unchanged given TooLong m) (cond (admitted given) o (unchanged given NotAdmitted m)) (same-kept TooLong)
+      (either (admitted given) o (unchanged given NotAdmitted m) h (same-kept NotAdmitted))
+
+  entered-kept : (s : Cpu) (level : Level) (vector pc : ℕ) → Unchanged given m (entered given s level vector pc m)
+  unfolding entered
+  entered-kept s level vector pc =
+      let t : Cpu = setSr (handling level (s .sr)) s in
+      let sp : ℕ = addressOf (t .r) 7 in
+      let m′ : List ℕ = framed m sp vector (s .sr) pc in
+      let place : ℕ = vectorPlace (s .vbr) vector in
+      let no : Outcome = unchanged given NotInside m in
+      let third : Outcome = cond (inside m place 4) (completed (handlerState t (framePlace sp) (numberAt m′ place Long)) vector m′) no in
+      let second : Outcome = cond (inside m (framePlace sp) 4) third no in
+      either (inside m (pcPlace sp) 4) second no
+      (either (inside m (framePlace sp) 4) third no (tested (inside m place 4) _ vector m′ NotInside) (same-kept NotInside))
+      (same-kept NotInside)
+
+  left-kept : (s : Cpu) → Unchanged given m (left given s m)
+  unfolding left
+  left-kept s =
+      let sp : ℕ = addressOf (s .r) 7 in
+      let no : Outcome = unchanged given NotInside m in
+      let second : Outcome = cond (inside m (plus sp 4) 4) (completed (returned s sp (numberAt m sp Long) (numberAt m (plus sp 4) Long)) 0 m) no in
+      either (inside m sp 4) second no (tested (inside m (plus sp 4) 4) _ 0 m NotInside) (same-kept NotInside)
+
+  act-kept : (s : Cpu) (a : Action) → Unchanged given m (act given s a m)
+  unfolding statusPushed
+  act-kept s Nothing = done-kept s 0 m
+  act-kept s (Store a z v) = tested (inside m a (bytes z)) s 0 _ NotInside
+  act-kept s (StoreMany mask a) = tested (manyInside 16 m mask a) s 0 _ NotInside
+  act-kept s (LoadMany mask a) = tested (manyInside 16 m mask a) _ 0 m NotInside
+  act-kept s (Enter vector pc) = entered-kept s _ vector pc
+  act-kept s Return = left-kept s
+  act-kept s (Status v) = done-kept _ 0 m
+  act-kept s (Stop v) = done-kept _ 0 m
+  act-kept s (PushStatus v) = tested (inside m (minus (addressOf (s .r) 7) 4) 4) _ 0 _ NotInside
+  act-kept s Halt = done-kept _ 0 m
+  act-kept s (Other v) = done-kept _ 0 m
+  act-kept s (Accumulate i scale sub x y) = done-kept _ 0 m
+  act-kept s (SetAcc i v) = done-kept _ 0 m
+  act-kept s (SetExt i v) = done-kept _ 0 m
+  act-kept s (SetMacsr v) = done-kept _ 0 m
+  act-kept s (SetMask v) = done-kept _ 0 m
+  act-kept s (CopyAcc from to) = done-kept _ 0 m
+  act-kept s (ClearAcc i) = done-kept _ 0 m
+  act-kept s (Refuse n) = same-kept n
+
+  pub perform-kept : (c : Change) → Unchanged given m (perform given c m)
+  unfolding perform
+  perform-kept c = act-kept (applied given c) (c .action)
+
+  pub step-kept : Unchanged given m (step given m)
+  unfolding step
+  step-kept =
+      checked-kept _
+      (either (given .stopped) (unchanged given Stopped m) _ (same-kept Stopped) (perform-kept (execute (given .r) (given .pc) (given .sr) (given .other) (given .emac) m)))
+
+  exception-kept : (vector pc : ℕ) (level : Level) → Unchanged given m (exception given m vector pc level)
+  unfolding exception
+  exception-kept vector pc level =
+      checked-kept _ (either (levelTaken level) _ (unchanged given OutOfRange m) (entered-kept given level vector pc) (same-kept OutOfRange))
+
+  interrupt-kept : (vector level : ℕ) → Unchanged given m (interrupt given m vector level)
+  unfolding interrupt
+  interrupt-kept vector level =
+      checked-kept _
+      (either (ltb level 8) (cond (masked (given .sr) level) (unchanged given Masked m) (entered given given (To level) vector (given .pc) m)) (unchanged given OutOfRange m)
+      (either (masked (given .sr) level) (unchanged given Masked m) _ (same-kept Masked) (entered-kept given (To level) vector (given .pc)))
+      (same-kept OutOfRange))
+
+  rte-kept : Unchanged given m (rte given m)
+  unfolding rte
+  rte-kept = checked-kept _ (left-kept given)
+
+  push-kept : (v : ℕ) → Unchanged given m (push32 given m v)
+  unfolding push32
+  push-kept v = checked-kept _ (tested (inside m (minus (addressOf (given .r) 7) 4) 4) _ 0 _ NotInside)
+
+pop-by : (a b c : Bool) (s : Cpu) (done : Popped) → done .reply ≡ Done
+    → let o : Popped = cond a (notPopped s TooLong) (cond b (cond c done (notPopped s NotInside)) (notPopped s NotAdmitted)) in
+    NotZero (o .reply) → (o .cpu ≡ s) × (o .value ≡ 0)
+pop-by true b c s done e h = (refl, refl)
+pop-by false true true s done e h = absurd (done-not (rw e at h))
+pop-by false true false s done e h = (refl, refl)
+pop-by false false c s done e h = (refl, refl)
+
+pop-kept : (s : Cpu) (m : List ℕ) → NotZero (pop32 s m .reply) → (pop32 s m .cpu ≡ s) × (pop32 s m .value ≡ 0)
+unfolding pop32
+pop-kept s m h = pop-by (tooLong m) (admitted s) (inside m (addressOf (s .r) 7) 4) s _ refl h
+
+set-sr-by : (b : Bool) (s : Cpu) (x : Cpu)
+    → let o : Answer = cond b (record { reply = Done; cpu = x }) (record { reply = NotAdmitted; cpu = s }) in
+    NotZero (o .reply) → o .cpu ≡ s
+set-sr-by true s x h = absurd (done-not h)
+set-sr-by false s x h = refl
+
+set-sr-kept : (s : Cpu) (v : ℕ) → NotZero (setSrCall s v .reply) → setSrCall s v .cpu ≡ s
+unfolding setSrCall
+set-sr-kept s v h = set-sr-by (admitted s) s (setSr v s) h
+
+told-by : (b : Bool) (v : ℕ) → let o : Told = cond b (record { reply = Done; value = v }) (record { reply = NotAdmitted; value = 0 }) in NotZero (o .reply) → o .value ≡ 0
+told-by true v h = absurd (done-not h)
+told-by false v h = refl
+
+told-zero : (s : Cpu) (v : ℕ) → NotZero (told s v .reply) → told s v .value ≡ 0
+unfolding told
+told-zero s v h = told-by (admitted s) v h
+
+read-by : (a b c d : Bool) (s : Cpu)
+    → let o : Answer = cond a (notRead WrongLength) (cond b (cond c (cond d (record { reply = Done; cpu = s }) (notRead NotAdmitted)) (notRead WrongLength)) (notRead WrongVersion)) in
+    NotZero (o .reply) → o .cpu ≡ fresh
+read-by true b c d s h = refl
+read-by false true true true s h = absurd (done-not h)
+read-by false true true false s h = refl
+read-by false true false d s h = refl
+read-by false false c d s h = refl
+
+read-fresh : (b : List ℕ) → NotZero (readBlock b .reply) → readBlock b .cpu ≡ fresh
+unfolding readBlock
+read-fresh b h = read-by (ltb (length b) 5) (eqb (valueAt b 0 1) 1) (eqb (length b) 128 && eqb (valueAt b 1 4) 123) (saysAdmitted b) (stateAt b) h
+
+store-by : (x y : Bool) (new b : List ℕ)
+    → let o : Stored = cond x (cond y (record { reply = Done; bytes = new }) (record { reply = NotAdmitted; bytes = b })) (record { reply = WrongLength; bytes = b }) in
+    NotZero (o .reply) → o .bytes ≡ b
+store-by true true new b h = absurd (done-not h)
+store-by true false new b h = refl
+store-by false y new b h = refl
+
+store-kept : (s : Cpu) (b : List ℕ) → NotZero (storeBlock s b .reply) → storeBlock s b .bytes ≡ b
+unfolding storeBlock
+store-kept s b h = store-by (eqb (length b) 128) (admitted s) (blockOf s) b h
+
+pub refusals : Refusals
+refusals = record {
+  of-step = step-kept;
+  of-perform = λ s c m. perform-kept s m c;
+  of-exception = exception-kept;
+  of-interrupt = interrupt-kept;
+  of-rte = rte-kept;
+  of-push32 = push-kept;
+  of-pop32 = pop-kept;
+  of-set-sr = set-sr-kept;
+  of-ipl = λ s. told-zero s _;
+  of-supervisor = λ s. told-zero s _;
+  of-read-block = read-fresh;
+  of-store-block = store-kept;
+}

@@ -1,0 +1,243 @@
+-- Replies by their numbers: what number a tree of tests gives, and when. Assumes nothing.
+use Prim.Native.Nat.{ℕ, _+_, _≤_, _<_}
+use mathlib.Core.Path.{_≡_, refl, sym, ap, _∙_}
+use mathlib.Core.Bool.{Bool, true, false, cond, _&&_, false≢true}
+use mathlib.Core.List.{List}
+use mathlib.Core.Logic.{_↔_, _⊎_, ⊎-elim, inl, inr}
+use native.Mathlib.Omega.{arith}
+use lib.Dec.{eqb, ltb, leb}
+use lib.ListN.{length}
+use borrow.Author.Tests.{ltb-true, ltb-false, lt-ltb, le-ltb, leb-true, leb-false, le-leb, lt-leb, eqb-true, eqb-false, eq-eqb, ne-eqb}
+use Rattle.manual.specs.declared.Cpu.{Cpu}
+use Rattle.manual.specs.declared.Level.{Level}
+use Rattle.manual.specs.declared.Size.the-variants.{Long}
+use Rattle.manual.specs.declared.Reply.{Reply}
+use Rattle.manual.specs.declared.Reply.the-variants.{TooLong, NotAdmitted, NotInside}
+use Rattle.manual.specs.declared.Action.{Action}
+use Rattle.manual.specs.declared.Action.the-variants.{Nothing, Store, StoreMany, LoadMany, Enter, Return, Status, Stop, PushStatus, Halt, Other, Accumulate, SetAcc, SetExt, SetMacsr, SetMask, CopyAcc, ClearAcc, Refuse}
+use Rattle.manual.specs.declared.Change.{Change}
+use Rattle.manual.specs.Word.{bytes, plus, minus}
+use Rattle.manual.specs.Registers.{addressOf, applied}
+use Rattle.manual.specs.Memory.{inside, numberAt, manyInside}
+use Rattle.manual.specs.Reply.{numberOf, Outcome, completed, unchanged, refusal}
+use Rattle.manual.specs.Admitted.{admitted, tooLong, checked}
+use Rattle.manual.specs.Differences.{vectorPlace}
+use Rattle.manual.specs.Change.{notCarried, refuse}
+use Rattle.manual.specs.Exceptions.{setSr, handling, pcPlace, framePlace, framed, handlerState, entered, left}
+use Rattle.instructions.specs.Perform.{statusPushed, act, perform}
+use Rattle.demands.specs.BodyLaws.{fine, Fine}
+
+abbrev pub numbered : Outcome → ℕ
+numbered o = numberOf (o .stepped .reply)
+
+-- ---- equivalences
+
+pub iff-trans : {A B C : Type 0} → A ↔ B → B ↔ C → A ↔ C
+iff-trans p q = (λ a. q .0 (p .0 a), λ c. p .1 (q .1 c))
+
+pub iff-and : {A B C D : Type 0} → A ↔ B → C ↔ D → (A × C) ↔ (B × D)
+iff-and p q = (λ x. (p .0 (x .0), q .0 (x .1)), λ x. (p .1 (x .0), q .1 (x .1)))
+
+pub iff-or : {A B C D : Type 0} → A ↔ B → C ↔ D → (A ⊎ C) ↔ (B ⊎ D)
+iff-or p q = (⊎-elim (λ a. inl (p .0 a)) (λ c. inr (q .0 c)), ⊎-elim (λ b. inl (p .1 b)) (λ d. inr (q .1 d)))
+
+pub iff-same : {A : Type 0} → A ↔ A
+iff-same = (λ a. a, λ a. a)
+
+-- tests as facts
+pub iff-lt : (a b : ℕ) → (ltb a b ≡ true) ↔ (a < b)
+iff-lt a b = (ltb-true a b, lt-ltb a b)
+
+pub iff-not-lt : (a b : ℕ) → (ltb a b ≡ false) ↔ (b ≤ a)
+iff-not-lt a b = (ltb-false a b, le-ltb a b)
+
+pub iff-le : (a b : ℕ) → (leb a b ≡ true) ↔ (a ≤ b)
+iff-le a b = (leb-true a b, le-leb a b)
+
+pub iff-not-le : (a b : ℕ) → (leb a b ≡ false) ↔ (b < a)
+iff-not-le a b = (leb-false a b, lt-leb a b)
+
+pub iff-eq : (a b : ℕ) → (eqb a b ≡ true) ↔ (a ≡ b)
+iff-eq a b = (eqb-true a b, eq-eqb a b)
+
+pub iff-not-eq : (a b : ℕ) → (eqb a b ≡ false) ↔ (a ≡ b → ⊥)
+iff-not-eq a b = (eqb-false a b, ne-eqb a b)
+
+pub iff-both : (a b : Bool) → ((a && b) ≡ true) ↔ ((a ≡ true) × (b ≡ true))
+iff-both true b = (λ h. (refl, h), λ h. h .1)
+iff-both false b = (λ h. absurd (false≢true h), λ h. h .0)
+
+-- ---- a tree of numbers: k is given at a test, or further on
+
+module _ (k rest : ℕ) where
+  pub here : (rest ≡ k → ⊥) → (b : Bool) → (cond b k rest ≡ k) ↔ (b ≡ true)
+  here n true = (λ h. refl, λ h. refl)
+  here n false = (λ h. absurd (n h), λ h. absurd (false≢true h))
+
+  pub here-else : (rest ≡ k → ⊥) → (b : Bool) → (cond b rest k ≡ k) ↔ (b ≡ false)
+  here-else n true = (λ h. absurd (n h), λ h. absurd (false≢true (sym h)))
+  here-else n false = (λ h. refl, λ h. refl)
+
+  pub later : (j : ℕ) → (j ≡ k → ⊥) → (b : Bool) → (cond b j rest ≡ k) ↔ ((b ≡ false) × (rest ≡ k))
+  later j n true = (λ h. absurd (n h), λ h. absurd (false≢true (sym (h .0))))
+  later j n false = (λ h. (refl, h), λ h. h .1)
+
+  pub later-else : (j : ℕ) → (j ≡ k → ⊥) → (b : Bool) → (cond b rest j ≡ k) ↔ ((b ≡ true) × (rest ≡ k))
+  later-else j n true = (λ h. (refl, h), λ h. h .1)
+  later-else j n false = (λ h. absurd (n h), λ h. absurd (false≢true (h .0)))
+
+pub neither : (b : Bool) (x y k : ℕ) → (x ≡ k → ⊥) → (y ≡ k → ⊥) → cond b x y ≡ k → ⊥
+neither true x y k p q = p
+neither false x y k p q = q
+
+-- ---- the numbers of outcomes
+
+pub number-cond : (b : Bool) (x y : Outcome) → numbered (cond b x y) ≡ cond b (numbered x) (numbered y)
+number-cond true x y = refl
+number-cond false x y = refl
+
+pub number-same : (s : Cpu) (n : Reply) (m : List ℕ) → numbered (unchanged s n m) ≡ numberOf n
+unfolding refusal
+number-same s n m = refl
+
+-- replies 1 and 2 come before all else
+module _ (s : Cpu) (m : List ℕ) (o : Outcome) where
+  checked-number : numbered (checked s m o) ≡ cond (tooLong m) 1 (cond (admitted s) (numbered o) 2)
+  unfolding numberOf refusal
+  checked-number =
+      number-cond (tooLong m) (unchanged s TooLong m) (cond (admitted s) o (unchanged s NotAdmitted m))
+      ∙ ap (λ (x : ℕ). cond (tooLong m) 1 x) (number-cond (admitted s) o (unchanged s NotAdmitted m))
+
+  pub checked-1 : (numbered o ≡ 1 → ⊥) → (numbered (checked s m o) ≡ 1) ↔ (0x100_0000 < length m)
+  checked-1 n =
+      rw checked-number
+      (iff-trans (here 1 (cond (admitted s) (numbered o) 2) (neither (admitted s) (numbered o) 2 1 n (λ h. omega arith)) (tooLong m)) (iff-lt 0x100_0000 (length m)))
+
+  pub checked-2 : (numbered o ≡ 2 → ⊥) → (numbered (checked s m o) ≡ 2) ↔ ((length m ≤ 0x100_0000) × (admitted s ≡ false))
+  checked-2 n =
+      rw checked-number
+      (iff-trans (later 2 (cond (admitted s) (numbered o) 2) 1 (λ h. omega arith) (tooLong m))
+      (iff-and (iff-not-lt 0x100_0000 (length m)) (here-else 2 (numbered o) n (admitted s))))
+
+  pub checked-on : (k : ℕ) → (1 ≡ k → ⊥) → (2 ≡ k → ⊥) → (numbered (checked s m o) ≡ k) ↔ (((length m ≤ 0x100_0000) × (admitted s ≡ true)) × (numbered o ≡ k))
+  checked-on k n1 n2 =
+      rw checked-number
+      (iff-trans (later k (cond (admitted s) (numbered o) 2) 1 n1 (tooLong m))
+      (iff-trans (iff-and (iff-not-lt 0x100_0000 (length m)) (later-else k (numbered o) 2 n2 (admitted s)))
+      (λ h. ((h .0, h .1 .0), h .1 .1), λ h. (h .0 .0, (h .0 .1, h .1)))))
+
+-- ---- what an entry, a return and an instruction's action answer: 0, or 4 where an access is not inside
+
+abbrev pub Outside : List ℕ → ℕ → ℕ → Type 0
+Outside m a n = length m < a + n
+
+pub outside : (m : List ℕ) (a n : ℕ) → (inside m a n ≡ false) ↔ Outside m a n
+outside m a n = iff-not-le (a + n) (length m)
+
+abbrev three : Bool → Bool → Bool → ℕ
+three a b c = cond a (cond b (cond c 0 4) 4) 4
+
+three-4 : (a b c : Bool) → (three a b c ≡ 4) ↔ ((a ≡ false) ⊎ ((b ≡ false) ⊎ (c ≡ false)))
+three-4 true true true = (λ h. absurd (omega arith), ⊎-elim (λ h. absurd (false≢true (sym h))) (⊎-elim (λ h. absurd (false≢true (sym h))) (λ h. absurd (false≢true (sym h)))))
+three-4 true true false = (λ h. inr (inr refl), λ h. refl)
+three-4 true false c = (λ h. inr (inl refl), λ h. refl)
+three-4 false b c = (λ h. inl refl, λ h. refl)
+
+three-only : (a b c : Bool) → (three a b c ≡ 0) ⊎ (three a b c ≡ 4)
+three-only true true true = inl refl
+three-only true true false = inr refl
+three-only true false c = inr refl
+three-only false b c = inr refl
+
+module _ (given s : Cpu) (level : Level) (vector pc : ℕ) (m : List ℕ) where
+  -- A7 with the handler's status register
+  abbrev pub pointer : ℕ
+  pointer = addressOf (setSr (handling level (s .sr)) s .r) 7
+
+  entered-number : numbered (entered given s level vector pc m) ≡ three (inside m (pcPlace pointer) 4) (inside m (framePlace pointer) 4) (inside m (vectorPlace (s .vbr) vector) 4)
+  unfolding entered numberOf refusal
+  entered-number =
+      by (inside m (pcPlace pointer) 4) (inside m (framePlace pointer) 4) (inside m (vectorPlace (s .vbr) vector) 4)
+      (completed (handlerState (setSr (handling level (s .sr)) s) (framePlace pointer) (numberAt (framed m pointer vector (s .sr) pc) (vectorPlace (s .vbr) vector) Long)) vector (framed m pointer vector (s .sr) pc))
+      refl
+    where
+      by : (a b c : Bool) (all : Outcome) → numbered all ≡ 0
+          → numbered (cond a (cond b (cond c all (unchanged given NotInside m)) (unchanged given NotInside m)) (unchanged given NotInside m)) ≡ three a b c
+      by true true true all e = e
+      by true true false all e = refl
+      by true false c all e = refl
+      by false b c all e = refl
+
+  pub entered-4 : (numbered (entered given s level vector pc m) ≡ 4)
+      ↔ (Outside m (pcPlace pointer) 4 ⊎ (Outside m (framePlace pointer) 4 ⊎ Outside m (vectorPlace (s .vbr) vector) 4))
+  entered-4 =
+      rw entered-number
+      (iff-trans (three-4 (inside m (pcPlace pointer) 4) (inside m (framePlace pointer) 4) (inside m (vectorPlace (s .vbr) vector) 4))
+      (iff-or (outside m (pcPlace pointer) 4) (iff-or (outside m (framePlace pointer) 4) (outside m (vectorPlace (s .vbr) vector) 4))))
+
+  pub entered-only : (numbered (entered given s level vector pc m) ≡ 0) ⊎ (numbered (entered given s level vector pc m) ≡ 4)
+  entered-only = rw entered-number (three-only (inside m (pcPlace pointer) 4) (inside m (framePlace pointer) 4) (inside m (vectorPlace (s .vbr) vector) 4))
+
+module _ (given s : Cpu) (m : List ℕ) where
+  left-number : numbered (left given s m) ≡ three (inside m (addressOf (s .r) 7) 4) (inside m (plus (addressOf (s .r) 7) 4) 4) true
+  unfolding left numberOf refusal
+  left-number = by (inside m (addressOf (s .r) 7) 4) (inside m (plus (addressOf (s .r) 7) 4) 4) _
+    where
+      by : (a b : Bool) (t : Cpu) → numbered (cond a (cond b (completed t 0 m) (unchanged given NotInside m)) (unchanged given NotInside m)) ≡ three a b true
+      by true true t = refl
+      by true false t = refl
+      by false b t = refl
+
+  pub left-4 : (numbered (left given s m) ≡ 4) ↔ (Outside m (addressOf (s .r) 7) 4 ⊎ Outside m (plus (addressOf (s .r) 7) 4) 4)
+  left-4 =
+      rw left-number
+      (iff-trans (three-4 (inside m (addressOf (s .r) 7) 4) (inside m (plus (addressOf (s .r) 7) 4) 4) true)
+      (iff-or (outside m (addressOf (s .r) 7) 4) (iff-trans (⊎-elim (λ h. h) (λ h. absurd (false≢true (sym h))), λ h. inl h) (outside m (plus (addressOf (s .r) 7) 4) 4))))
+
+  pub left-only : (numbered (left given s m) ≡ 0) ⊎ (numbered (left given s m) ≡ 4)
+  left-only = rw left-number (three-only (inside m (addressOf (s .r) 7) 4) (inside m (plus (addressOf (s .r) 7) 4) 4) true)
+
+  -- one access
+  one-number : (b : Bool) (t : Cpu) (m′ : List ℕ) → numbered (cond b (completed t 0 m′) (unchanged given NotInside m)) ≡ cond b 0 4
+  unfolding numberOf refusal
+  one-number true t m′ = refl
+  one-number false t m′ = refl
+
+  pub one-4 : (b : Bool) (t : Cpu) (m′ : List ℕ) → (numbered (cond b (completed t 0 m′) (unchanged given NotInside m)) ≡ 4) ↔ (b ≡ false)
+  one-4 b t m′ = rw (one-number b t m′) (here-else 4 0 (λ h. omega arith) b)
+
+  pub one-only : (b : Bool) (t : Cpu) (m′ : List ℕ)
+      → (numbered (cond b (completed t 0 m′) (unchanged given NotInside m)) ≡ 0) ⊎ (numbered (cond b (completed t 0 m′) (unchanged given NotInside m)) ≡ 4)
+  unfolding numberOf refusal
+  one-only true t m′ = inl refl
+  one-only false t m′ = inr refl
+
+  pub act-only : (a : Action) → fine a ≡ true → (numbered (act given s a m) ≡ 0) ⊎ (numbered (act given s a m) ≡ 4)
+  unfolding numberOf refusal statusPushed
+  act-only Nothing f = inl refl
+  act-only (Store a z v) f = one-only (inside m a (bytes z)) _ _
+  act-only (StoreMany mask a) f = one-only (manyInside 16 m mask a) _ _
+  act-only (LoadMany mask a) f = one-only (manyInside 16 m mask a) _ _
+  act-only (Enter vector pc) f = entered-only given s _ vector pc m
+  act-only Return f = left-only
+  act-only (Status v) f = inl refl
+  act-only (Stop v) f = inl refl
+  act-only (PushStatus v) f = one-only (inside m (minus (addressOf (s .r) 7) 4) 4) _ _
+  act-only Halt f = inl refl
+  act-only (Other v) f = inl refl
+  act-only (Accumulate i scale sub x y) f = inl refl
+  act-only (SetAcc i v) f = inl refl
+  act-only (SetExt i v) f = inl refl
+  act-only (SetMacsr v) f = inl refl
+  act-only (SetMask v) f = inl refl
+  act-only (CopyAcc from to) f = inl refl
+  act-only (ClearAcc i) f = inl refl
+  act-only (Refuse n) f = inr (eqb-true _ _ f)
+
+pub perform-only : (s : Cpu) (c : Change) (m : List ℕ) → Fine c → (numbered (perform s c m) ≡ 0) ⊎ (numbered (perform s c m) ≡ 4)
+unfolding perform
+perform-only s c m f = act-only s (applied s c) m (c .action) f
+
+pub perform-5 : (s : Cpu) (m : List ℕ) → numbered (perform s notCarried m) ≡ 5
+unfolding perform notCarried refuse numberOf refusal
+perform-5 s m = refl
