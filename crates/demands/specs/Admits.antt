@@ -3,20 +3,18 @@
 -- What is admitted, in the document's words: SR has no bit outside 0xB71F, MACSR is at most 0xFFF, and each accumulator's number is in
 -- the range of its mode, 0 to 2^48-1 with FI clear and SU set, and -2^47 to 2^47-1 otherwise. Assumes nothing.
 use Prim.Native.Nat.{ℕ, zero, suc, _+_, _-_, _^_, _≤_, _<_}
-use mathlib.Core.Path.{_≡_, refl, sym, ap, _∙_}
-use mathlib.Core.Bool.{Bool, true, false, cond, not, _&&_, false≢true}
+use mathlib.Core.Path.{_≡_, refl, sym, _∙_}
+use mathlib.Core.Bool.{Bool, true, false, cond, _&&_}
 use mathlib.Core.List.{List, []}
 use native.Mathlib.Omega.{arith}
 use lib.Bits.{bitAnd}
 use lib.Dec.{ltb, eqb}
 use lib.IntN.{pos}
 use lib.ListN.{length}
-use borrow.Author.Tests.{ltb-true, lt-ltb, le-ltb}
+use borrow.Author.Tests.{lt-ltb}
 use Rattle.manual.specs.declared.Cpu.{Cpu}
 use Rattle.manual.specs.declared.Level.{Level}
 use Rattle.manual.specs.declared.Level.the-variants.{Kept, To}
-use Rattle.manual.specs.declared.Size.the-variants.{Long}
-use Rattle.manual.specs.declared.Reply.{Reply}
 use Rattle.manual.specs.declared.Reply.the-variants.{Done, TooLong, NotAdmitted, Stopped, NotInside, OutOfRange, Masked, WrongVersion, WrongLength}
 use Rattle.manual.specs.declared.Answer.{Answer}
 use Rattle.manual.specs.declared.Popped.{Popped}
@@ -26,7 +24,7 @@ use Rattle.manual.specs.declared.Change.{Change}
 use Rattle.manual.specs.declared.Mode.{Mode}
 use Rattle.manual.specs.Word.{bytes, minus, signedAt, inHalf}
 use Rattle.manual.specs.Registers.{addressOf, withAddress, withRegisters, applied}
-use Rattle.manual.specs.Memory.{inside, valueAt, numberAt, manyInside, loadedMany}
+use Rattle.manual.specs.Memory.{inside, valueAt, manyInside, loadedMany}
 use Rattle.manual.specs.Emac.{modeOf, accOf, valueOf, inRange, inWhole, unsigned}
 use Rattle.manual.specs.EmacCalls.{accSetCall, setAccPhysCall, setMacsrCall}
 use Rattle.manual.specs.Reply.{Outcome, completed, unchanged, isDone}
