@@ -2,10 +2,11 @@
 --
 --   1  memory too long
 --   2  state not admitted
---   3  state stopped (step)
---   4  an access this call makes is not inside (of each call that names its accesses: for a step, of what it leaves to be done)
+--   3  state stopped (step; run with budget left)
+--   4  an access this call makes is not inside (for a step: the fetch of its word, a read of the word's instruction, or what it leaves
+--      to be done)
 --   5  line 8; 0x4E7A, 0x4E7B; EMAC word operand
---   6  level above 7
+--   6  level above 7, or accumulator number above 3
 --   7  interrupt masked: level below 7 and at most the mask
 --   8  block or file: first byte not 1
 --   9  block or file: wrong length
@@ -21,9 +22,14 @@ use lib.Bits.{bitAnd}
 use lib.Dec.{eqb, ltb, leb}
 use lib.ListN.{length, getD}
 use Rattle.manual.specs.declared.Cpu.{Cpu}
+use Rattle.manual.specs.declared.Emac.{Emac}
 use Rattle.manual.specs.declared.Level.{Level}
 use Rattle.manual.specs.declared.Level.the-variants.{Kept, To}
+use Rattle.manual.specs.declared.Size.{Size}
 use Rattle.manual.specs.declared.Size.the-variants.{Word, Long}
+use Rattle.manual.specs.declared.Fault.the-variants.{Outside as Out}
+use Rattle.manual.specs.declared.Got.the-variants.{Value, Fault}
+use Rattle.manual.specs.declared.Action.the-variants.{Store, StoreMany, LoadMany, Enter, Return, PushStatus}
 use Rattle.manual.specs.declared.Reply.{Reply}
 use Rattle.manual.specs.declared.Reply.the-variants.{Done, TooLong, NotAdmitted, Stopped, NotInside, OutOfRange, Masked, WrongVersion, WrongLength}
 use Rattle.manual.specs.declared.Answer.{Answer}
@@ -31,18 +37,24 @@ use Rattle.manual.specs.declared.Told.{Told}
 use Rattle.manual.specs.declared.Popped.{Popped}
 use Rattle.manual.specs.declared.Change.{Change}
 use Rattle.manual.specs.Word.{bytes, plus, minus}
-use Rattle.manual.specs.Registers.{addressOf, withAddress}
-use Rattle.manual.specs.Memory.{inside, valueAt, numberAt, stored}
+use Rattle.manual.specs.Registers.{addressOf, withAddress, applied}
+use Rattle.manual.specs.Memory.{inside, valueAt, numberAt, stored, load, manyInside}
 use Rattle.manual.specs.Reply.{numberOf, Outcome, completed, unchanged, refusal}
 use Rattle.manual.specs.Admitted.{admitted, tooLong, checked}
 use Rattle.manual.specs.Differences.{vectorPlace}
 use Rattle.manual.specs.Exceptions.{maskOf, setSr, handling, pcPlace, framePlace, entered, left, levelTaken, masked, exception, interrupt, rte, push32, notPopped, pop32, setSrCall, told, ipl, supervisorCall}
+use Rattle.manual.specs.Emac.{setMacsr}
+use Rattle.manual.specs.EmacCalls.{accTold, doneWith, accChanged, accGetCall, accSetCall, accPhysCall, setAccPhysCall, setMacsrCall}
 use Rattle.manual.specs.Block.{saysAdmitted, stateAt, notRead, readBlock, blockOf, Stored, storeBlock}
 use Rattle.manual.specs.Image.{imageMemory, imageState, imageReply}
 use Rattle.instructions.specs.Rows.{rowOf}
-use Rattle.instructions.specs.Perform.{perform}
+use Rattle.instructions.specs.Perform.{statusPushed, perform}
 use Rattle.instructions.specs.Step.{instruction, step}
+use Rattle.instructions.specs.Run.{RunOutcome, run}
+use Rattle.word.specs.TestLaws.{by-lt}
 use Rattle.memory.specs.MemoryLaws.{value-lt}
+use Rattle.demands.specs.Runs.{Ends, runs}
+use Rattle.demands.specs.Admits.{admits}
 use Rattle.demands.specs.BodyLaws.{Excused, instruction-fine, excused-refused, movec-read, movec-write, mac-fits, mac-row}
 use Rattle.demands.specs.StepLaws.{doing, fetched, not-fetched, perform-refuse}
 use Rattle.demands.specs.ReplyLaws as laws
@@ -69,6 +81,7 @@ pub data NotCarriedWord (m : List ℕ) (at op : ℕ) : Type 0 where
 
 pub record Reply1 : Type 0 where
   pub step-1 : (s : Cpu) (m : List ℕ) → (numbered (step s m) ≡ 1) ↔ (0x100_0000 < length m)
+  pub run-1 : (budget : ℕ) (s : Cpu) (m : List ℕ) → (numberOf (run budget s m .ran .reply) ≡ 1) ↔ (0x100_0000 < length m)
   pub exception-1 : (s : Cpu) (m : List ℕ) (vector pc : ℕ) (level : Level) → (numbered (exception s m vector pc level) ≡ 1) ↔ (0x100_0000 < length m)
   pub interrupt-1 : (s : Cpu) (m : List ℕ) (vector level : ℕ) → (numbered (interrupt s m vector level) ≡ 1) ↔ (0x100_0000 < length m)
   pub rte-1 : (s : Cpu) (m : List ℕ) → (numbered (rte s m) ≡ 1) ↔ (0x100_0000 < length m)
@@ -77,6 +90,7 @@ pub record Reply1 : Type 0 where
 
 pub record Reply2 : Type 0 where
   pub step-2 : (s : Cpu) (m : List ℕ) → (numbered (step s m) ≡ 2) ↔ ((length m ≤ 0x100_0000) × (admitted s ≡ false))
+  pub run-2 : (budget : ℕ) (s : Cpu) (m : List ℕ) → (numberOf (run budget s m .ran .reply) ≡ 2) ↔ ((length m ≤ 0x100_0000) × (admitted s ≡ false))
   pub exception-2 : (s : Cpu) (m : List ℕ) (vector pc : ℕ) (level : Level)
       → (numbered (exception s m vector pc level) ≡ 2) ↔ ((length m ≤ 0x100_0000) × (admitted s ≡ false))
   pub interrupt-2 : (s : Cpu) (m : List ℕ) (vector level : ℕ) → (numbered (interrupt s m vector level) ≡ 2) ↔ ((length m ≤ 0x100_0000) × (admitted s ≡ false))
@@ -86,9 +100,17 @@ pub record Reply2 : Type 0 where
   pub set-sr-2 : (s : Cpu) (v : ℕ) → (numberOf (setSrCall s v .reply) ≡ 2) ↔ (admitted s ≡ false)
   pub ipl-2 : (s : Cpu) → (numberOf (ipl s .reply) ≡ 2) ↔ (admitted s ≡ false)
   pub supervisor-2 : (s : Cpu) → (numberOf (supervisorCall s .reply) ≡ 2) ↔ (admitted s ≡ false)
+  pub acc-get-2 : (s : Cpu) (i : ℕ) → (numberOf (accGetCall s i .reply) ≡ 2) ↔ (admitted s ≡ false)
+  pub acc-phys-2 : (s : Cpu) (i : ℕ) → (numberOf (accPhysCall s i .reply) ≡ 2) ↔ (admitted s ≡ false)
+  pub acc-set-2 : (s : Cpu) (i v : ℕ) → (numberOf (accSetCall s i v .reply) ≡ 2) ↔ (admitted s ≡ false)
+  pub set-acc-phys-2 : (s : Cpu) (i acc ext : ℕ) → (numberOf (setAccPhysCall s i acc ext .reply) ≡ 2) ↔ (admitted s ≡ false)
+  pub set-macsr-2 : (s : Cpu) (v : ℕ) → (numberOf (setMacsrCall s v .reply) ≡ 2) ↔ (admitted s ≡ false)
 
+-- a run: with budget left, in the state after the steps that were done
 pub record Reply3 : Type 0 where
   pub step-3 : (s : Cpu) (m : List ℕ) → (numbered (step s m) ≡ 3) ↔ (Ready s m × (s .stopped ≡ true))
+  pub run-3 : (budget : ℕ) (s : Cpu) (m : List ℕ)
+      → (numberOf (run budget s m .ran .reply) ≡ 3) ↔ (Ready s m × ((run budget s m .ran .count < budget) × (run budget s m .ran .cpu .stopped ≡ true)))
 
 -- an entry stores two longs, sp being A7 with the handler's status register, and reads the vector; a return reads two longs
 pub record Reply4 : Type 0 where
@@ -105,6 +127,27 @@ pub record Reply4 : Type 0 where
   pub rte-4 : (s : Cpu) (m : List ℕ)
       → (numbered (rte s m) ≡ 4) ↔ (Ready s m × (Outside m (addressOf (s .r) 7) 4 ⊎ Outside m (plus (addressOf (s .r) 7) 4) 4))
   pub push32-4 : (s : Cpu) (m : List ℕ) (v : ℕ) → (numbered (push32 s m v) ≡ 4) ↔ (Ready s m × Outside m (minus (addressOf (s .r) 7) 4) 4)
+  -- a step: the fetch, or what the instruction and its action then come to
+  pub step-4 : (s : Cpu) (m : List ℕ)
+      → let c : Change = instruction (s .r) (s .pc) (s .sr) (s .other) (s .emac) m (numberAt m (s .pc) Word) in
+      (numbered (step s m) ≡ 4)
+      ↔ (Ready s m × ((s .stopped ≡ false) × (Outside m (s .pc) 2 ⊎ ((s .pc + 2 ≤ length m) × (numbered (perform s c m) ≡ 4)))))
+  -- an instruction's read
+  pub load-4 : (m : List ℕ) (a : ℕ) (z : Size) → (load m a z ≡ Fault Out) ↔ Outside m a (bytes z)
+  -- what an instruction leaves to be done, t being the registers after its own changes
+  pub store-4 : (s : Cpu) (c : Change) (m : List ℕ) (a : ℕ) (z : Size) (v : ℕ) → c .action ≡ Store a z v → (numbered (perform s c m) ≡ 4) ↔ Outside m a (bytes z)
+  pub store-many-4 : (s : Cpu) (c : Change) (m : List ℕ) (regs a : ℕ) → c .action ≡ StoreMany regs a → (numbered (perform s c m) ≡ 4) ↔ (manyInside 16 m regs a ≡ false)
+  pub load-many-4 : (s : Cpu) (c : Change) (m : List ℕ) (regs a : ℕ) → c .action ≡ LoadMany regs a → (numbered (perform s c m) ≡ 4) ↔ (manyInside 16 m regs a ≡ false)
+  pub enter-4 : (s : Cpu) (c : Change) (m : List ℕ) (vector pc : ℕ) → c .action ≡ Enter vector pc
+      → let t : Cpu = applied s c in
+      let sp : ℕ = addressOf (setSr (handling Kept (t .sr)) t .r) 7 in
+      (numbered (perform s c m) ≡ 4) ↔ (Outside m (pcPlace sp) 4 ⊎ (Outside m (framePlace sp) 4 ⊎ Outside m (vectorPlace (t .vbr) vector) 4))
+  pub return-4 : (s : Cpu) (c : Change) (m : List ℕ) → c .action ≡ Return
+      → let t : Cpu = applied s c in
+      (numbered (perform s c m) ≡ 4) ↔ (Outside m (addressOf (t .r) 7) 4 ⊎ Outside m (plus (addressOf (t .r) 7) 4) 4)
+  pub push-status-4 : (s : Cpu) (c : Change) (m : List ℕ) (v : ℕ) → c .action ≡ PushStatus v
+      → let t : Cpu = applied s c in
+      (numbered (perform s c m) ≡ 4) ↔ Outside m (minus (addressOf (t .r) 7) 4) 4
   pub pop32-4 : (s : Cpu) (m : List ℕ) → (numberOf (pop32 s m .reply) ≡ 4) ↔ (Ready s m × Outside m (addressOf (s .r) 7) 4)
 
 pub record Reply5 : Type 0 where
@@ -116,6 +159,10 @@ pub record Reply6 : Type 0 where
   pub exception-6 : (s : Cpu) (m : List ℕ) (vector pc level : ℕ) → (numbered (exception s m vector pc (To level)) ≡ 6) ↔ (Ready s m × (8 ≤ level))
   pub exception-kept-6 : (s : Cpu) (m : List ℕ) (vector pc : ℕ) → numbered (exception s m vector pc Kept) ≡ 6 → ⊥
   pub interrupt-6 : (s : Cpu) (m : List ℕ) (vector level : ℕ) → (numbered (interrupt s m vector level) ≡ 6) ↔ (Ready s m × (8 ≤ level))
+  pub acc-get-6 : (s : Cpu) (i : ℕ) → (numberOf (accGetCall s i .reply) ≡ 6) ↔ ((admitted s ≡ true) × (4 ≤ i))
+  pub acc-phys-6 : (s : Cpu) (i : ℕ) → (numberOf (accPhysCall s i .reply) ≡ 6) ↔ ((admitted s ≡ true) × (4 ≤ i))
+  pub acc-set-6 : (s : Cpu) (i v : ℕ) → (numberOf (accSetCall s i v .reply) ≡ 6) ↔ ((admitted s ≡ true) × (4 ≤ i))
+  pub set-acc-phys-6 : (s : Cpu) (i acc ext : ℕ) → (numberOf (setAccPhysCall s i acc ext .reply) ≡ 6) ↔ ((admitted s ≡ true) × (4 ≤ i))
 
 pub record Reply7 : Type 0 where
   pub interrupt-7 : (s : Cpu) (m : List ℕ) (vector level : ℕ)
@@ -249,6 +296,33 @@ module _ (s : Cpu) (m : List ℕ) where
       (laws.iff-and laws.iff-same
       (rw inner-number (laws.iff-trans (laws.later 5 (numbered acted) 3 (λ h. omega arith) (s .stopped)) (laws.iff-and laws.iff-same (acted-5 all)))))
 
+  acted-4 : let c : Change = instruction (s .r) (s .pc) (s .sr) (s .other) (s .emac) m op in
+      (numbered acted ≡ 4) ↔ (Outside m (s .pc) 2 ⊎ ((s .pc + 2 ≤ length m) × (numbered (perform s c m) ≡ 4)))
+  unfolding numberOf refusal
+  acted-4 = by (inside m (s .pc) 2) refl
+    where
+      by : (b : Bool) → inside m (s .pc) 2 ≡ b
+          → let c : Change = instruction (s .r) (s .pc) (s .sr) (s .other) (s .emac) m op in
+          (numbered acted ≡ 4) ↔ (Outside m (s .pc) 2 ⊎ ((s .pc + 2 ≤ length m) × (numbered (perform s c m) ≡ 4)))
+      by false i = (
+        λ e. inl (laws.iff-not-le _ _ .0 i),
+        λ h. ap (λ (c : Change). numbered (perform s c m)) (not-fetched (s .r) (s .pc) (s .sr) (s .other) (s .emac) m i) ∙ ap numbered (perform-refuse s NotInside m),
+      )
+      by true i =
+          let l : s .pc + 2 ≤ length m = laws.iff-le _ _ .0 i in
+          let f : doing s m ≡ instruction (s .r) (s .pc) (s .sr) (s .other) (s .emac) m op = fetched (s .r) (s .pc) (s .sr) (s .other) (s .emac) m op i refl in (
+            λ e. inr (l, sym (ap (λ (c : Change). numbered (perform s c m)) f) ∙ e),
+            ⊎-elim (λ o. absurd (omega (arith, l, o))) (λ h. ap (λ (c : Change). numbered (perform s c m)) f ∙ h .1),
+          )
+
+  of-step-4 : let c : Change = instruction (s .r) (s .pc) (s .sr) (s .other) (s .emac) m op in
+      (numbered (step s m) ≡ 4) ↔ (Ready s m × ((s .stopped ≡ false) × (Outside m (s .pc) 2 ⊎ ((s .pc + 2 ≤ length m) × (numbered (perform s c m) ≡ 4)))))
+  unfolding step
+  of-step-4 =
+      laws.iff-trans (laws.checked-on s m inner 4 (λ h. omega arith) (λ h. omega arith))
+      (laws.iff-and laws.iff-same
+      (rw inner-number (laws.iff-trans (laws.later 4 (numbered acted) 3 (λ h. omega arith) (s .stopped)) (laws.iff-and laws.iff-same acted-4))))
+
   step-number : numbered (step s m) ≤ 5
   unfolding step numberOf
   step-number = by (tooLong m) (admitted s) (s .stopped)
@@ -261,6 +335,130 @@ module _ (s : Cpu) (m : List ℕ) where
       by false true true = few s Stopped m (omega arith)
       by false true false = small
       by false false c = few s NotAdmitted m (omega arith)
+
+-- ---- an instruction's reads, and what it leaves to be done
+
+load-outside : (m : List ℕ) (a : ℕ) (z : Size) → (load m a z ≡ Fault Out) ↔ Outside m a (bytes z)
+unfolding load
+load-outside m a z = laws.iff-trans (by (inside m a (bytes z)) (numberAt m a z)) (laws.outside m a (bytes z))
+  where
+    by : (b : Bool) (v : ℕ) → (cond b (Value v) (Fault Out) ≡ Fault Out) ↔ (b ≡ false)
+    by true v = (λ e. absurd (differ v e), λ h. absurd (false≢true (sym h)))
+      where
+        differ : (v : ℕ) → Value v ≡ Fault Out → ⊥
+        differ v e = let z : _≡_ {A = ℕ} 0 1 = cc in omega arith
+    by false v = (λ e. refl, λ h. refl)
+
+module _ (s : Cpu) (c : Change) (m : List ℕ) where
+  of-store-4 : (a : ℕ) (z : Size) (v : ℕ) → c .action ≡ Store a z v → (numbered (perform s c m) ≡ 4) ↔ Outside m a (bytes z)
+  unfolding perform applied
+  of-store-4 a z v e = rw e (laws.iff-trans (laws.one-4 s s m (inside m a (bytes z)) _ _) (laws.outside m a (bytes z)))
+
+  of-store-many-4 : (regs a : ℕ) → c .action ≡ StoreMany regs a → (numbered (perform s c m) ≡ 4) ↔ (manyInside 16 m regs a ≡ false)
+  unfolding perform applied
+  of-store-many-4 regs a e = rw e (laws.one-4 s s m (manyInside 16 m regs a) _ _)
+
+  of-load-many-4 : (regs a : ℕ) → c .action ≡ LoadMany regs a → (numbered (perform s c m) ≡ 4) ↔ (manyInside 16 m regs a ≡ false)
+  unfolding perform applied
+  of-load-many-4 regs a e = rw e (laws.one-4 s s m (manyInside 16 m regs a) _ _)
+
+  of-enter-4 : (vector pc : ℕ) → c .action ≡ Enter vector pc
+      → let t : Cpu = applied s c in
+      let sp : ℕ = addressOf (setSr (handling Kept (t .sr)) t .r) 7 in
+      (numbered (perform s c m) ≡ 4) ↔ (Outside m (pcPlace sp) 4 ⊎ (Outside m (framePlace sp) 4 ⊎ Outside m (vectorPlace (t .vbr) vector) 4))
+  unfolding perform applied
+  of-enter-4 vector pc e = rw e (laws.entered-4 s (applied s c) Kept vector pc m)
+
+  of-return-4 : c .action ≡ Return
+      → let t : Cpu = applied s c in
+      (numbered (perform s c m) ≡ 4) ↔ (Outside m (addressOf (t .r) 7) 4 ⊎ Outside m (plus (addressOf (t .r) 7) 4) 4)
+  unfolding perform applied
+  of-return-4 e = rw e (laws.left-4 s (applied s c) m)
+
+  of-push-status-4 : (v : ℕ) → c .action ≡ PushStatus v
+      → let t : Cpu = applied s c in
+      (numbered (perform s c m) ≡ 4) ↔ Outside m (minus (addressOf (t .r) 7) 4) 4
+  unfolding perform statusPushed applied addressOf minus
+  of-push-status-4 v e =
+      let a : ℕ = minus (addressOf (applied s c .r) 7) 4 in
+      rw e (laws.iff-trans (laws.one-4 s s m (inside m a 4) _ _) (laws.outside m a 4))
+
+-- ---- a run
+
+module _ (budget : ℕ) (s : Cpu) (m : List ℕ) where
+  abbrev ran : RunOutcome
+  ran = run budget s m
+
+  abbrev number : ℕ
+  number = numberOf (ran .ran .reply)
+
+  -- where a run that was let begin leaves off
+  ready-after : Ready s m → Ready (ran .ran .cpu) (ran .memory)
+  ready-after h = (rw (runs .as-long budget s m) (h .0), admits .by-run budget s m (h .1))
+
+  -- not 1 or 2 then
+  not-before : Ready s m → (number ≡ 1 → ⊥) × (number ≡ 2 → ⊥)
+  unfolding numberOf
+  not-before h =
+      ⊎-elim
+      (λ d. ((λ e. omega (arith, sym (ap numberOf (d .0)) ∙ e)), (λ e. omega (arith, sym (ap numberOf (d .0)) ∙ e))))
+      (λ d. (
+        (λ e. let l : 0x100_0000 < length (ran .memory) = of-step-1 (ran .ran .cpu) (ran .memory) .0 (ap numberOf (d .1 .1) ∙ e) in omega (arith, ready-after h .0)),
+        (λ e. false≢true (sym (of-step-2 (ran .ran .cpu) (ran .memory) .0 (ap numberOf (d .1 .1) ∙ e) .1) ∙ ready-after h .1)),
+      ))
+      (runs .ends budget s m (laws.iff-not-lt 0x100_0000 (length m) .1 (h .0)) (h .1))
+
+  given-1 : 0x100_0000 < length m → number ≡ 1
+  unfolding numberOf
+  given-1 h = ap (λ (r : RunOutcome). numberOf (r .ran .reply)) (runs .too-long budget s m (laws.iff-lt 0x100_0000 (length m) .1 h))
+
+  given-2 : length m ≤ 0x100_0000 → admitted s ≡ false → number ≡ 2
+  unfolding numberOf
+  given-2 h k = ap (λ (r : RunOutcome). numberOf (r .ran .reply)) (runs .not-admitted budget s m (laws.iff-not-lt 0x100_0000 (length m) .1 h) k)
+
+  -- one of the three
+  which {ℓ} : {P : Type ℓ} → (0x100_0000 < length m → P) → (length m ≤ 0x100_0000 → admitted s ≡ false → P) → (Ready s m → P) → P
+  which {P = P} one two three = by-lt 0x100_0000 (length m) one (λ l. at (admitted s) refl l)
+    where
+      at : (b : Bool) → admitted s ≡ b → length m ≤ 0x100_0000 → P
+      at true e l = three (l, e)
+      at false e l = two l e
+
+  of-run-1 : (number ≡ 1) ↔ (0x100_0000 < length m)
+  of-run-1 = (λ e. which (λ h. h) (λ h k. absurd (clash (given-2 h k) e)) (λ h. absurd (not-before h .0 e)), given-1)
+    where
+      clash : number ≡ 2 → number ≡ 1 → ⊥
+      clash a b = omega arith
+
+  of-run-2 : (number ≡ 2) ↔ ((length m ≤ 0x100_0000) × (admitted s ≡ false))
+  of-run-2 = (λ e. which (λ h. absurd (clash (given-1 h) e)) (λ h k. (h, k)) (λ h. absurd (not-before h .1 e)), λ h. given-2 (h .0) (h .1))
+    where
+      clash : number ≡ 1 → number ≡ 2 → ⊥
+      clash a b = omega arith
+
+  of-run-3 : (number ≡ 3) ↔ (Ready s m × ((ran .ran .count < budget) × (ran .ran .cpu .stopped ≡ true)))
+  unfolding numberOf
+  of-run-3 = (there, back)
+    where
+      at-end : Ready s m → Ends budget ran
+      at-end h = runs .ends budget s m (laws.iff-not-lt 0x100_0000 (length m) .1 (h .0)) (h .1)
+
+      clash : (n : ℕ) → number ≡ n → number ≡ 3 → (n ≡ 3 → ⊥) → ⊥
+      clash n a b f = f (sym a ∙ b)
+
+      there : number ≡ 3 → Ready s m × ((ran .ran .count < budget) × (ran .ran .cpu .stopped ≡ true))
+      there e =
+          which (λ h. absurd (clash 1 (given-1 h) e (λ x. omega arith))) (λ h k. absurd (clash 2 (given-2 h k) e (λ x. omega arith)))
+          (λ h. ⊎-elim
+          (λ d. absurd (clash 0 (ap numberOf (d .0)) e (λ x. omega arith)))
+          (λ d. (h, (d .0, of-step-3 (ran .ran .cpu) (ran .memory) .0 (ap numberOf (d .1 .1) ∙ e) .1)))
+          (at-end h))
+
+      back : Ready s m × ((ran .ran .count < budget) × (ran .ran .cpu .stopped ≡ true)) → number ≡ 3
+      back h =
+          ⊎-elim (λ d. absurd (omega (arith, d .1, h .1 .0)))
+          (λ d. sym (ap numberOf (d .1 .1)) ∙ of-step-3 (ran .ran .cpu) (ran .memory) .1 (ready-after (h .0), h .1 .1))
+          (at-end (h .0))
 
 -- ---- entries and returns
 
@@ -474,6 +672,62 @@ pick = cond
 not-2 : (s : Cpu) → (pick (admitted s) 0 2 ≡ 2) ↔ (admitted s ≡ false)
 not-2 s = laws.here-else 2 0 (λ h. omega arith) (admitted s)
 
+-- of an accumulator: admitted, and its number below 4
+abbrev acc-tests : Cpu → ℕ → ℕ
+acc-tests s i = pick (admitted s) (pick (ltb i 4) 0 6) 2
+
+acc-2 : (s : Cpu) (i : ℕ) → (acc-tests s i ≡ 2) ↔ (admitted s ≡ false)
+acc-2 s i = laws.here-else 2 (pick (ltb i 4) 0 6) (laws.neither (ltb i 4) 0 6 2 (λ h. omega arith) (λ h. omega arith)) (admitted s)
+
+acc-6 : (s : Cpu) (i : ℕ) → (acc-tests s i ≡ 6) ↔ ((admitted s ≡ true) × (4 ≤ i))
+acc-6 s i =
+    laws.iff-trans (laws.later-else 6 (pick (ltb i 4) 0 6) 2 (λ h. omega arith) (admitted s))
+    (laws.iff-and laws.iff-same (laws.iff-trans (laws.here-else 6 0 (λ h. omega arith) (ltb i 4)) (laws.iff-not-lt i 4)))
+
+acc-told : (s : Cpu) (i v : ℕ) → numberOf (accTold s i v .reply) ≡ acc-tests s i
+unfolding numberOf
+acc-told s i v = by (admitted s) (ltb i 4)
+  where
+    by : (a b : Bool)
+        → numberOf (cond {A = Told} a (cond b (record { reply = Done; value = v }) (record { reply = OutOfRange; value = 0 })) (record { reply = NotAdmitted; value = 0 }) .reply) ≡ pick a (pick b 0 6) 2
+    by true true = refl
+    by true false = refl
+    by false b = refl
+
+acc-changed : (s : Cpu) (i : ℕ) (e : Emac) → numberOf (accChanged s i e .reply) ≡ acc-tests s i
+unfolding numberOf
+acc-changed s i e = by (admitted s) (ltb i 4)
+  where
+    by : (a b : Bool)
+        → numberOf (cond {A = Answer} a (cond b (doneWith e s) (record { reply = OutOfRange; cpu = s })) (record { reply = NotAdmitted; cpu = s }) .reply) ≡ pick a (pick b 0 6) 2
+    by true true = refl
+    by true false = refl
+    by false b = refl
+
+acc-get-number : (s : Cpu) (i : ℕ) → numberOf (accGetCall s i .reply) ≡ acc-tests s i
+unfolding accGetCall
+acc-get-number s i = acc-told s i _
+
+acc-phys-number : (s : Cpu) (i : ℕ) → numberOf (accPhysCall s i .reply) ≡ acc-tests s i
+unfolding accPhysCall
+acc-phys-number s i = acc-told s i _
+
+acc-set-number : (s : Cpu) (i v : ℕ) → numberOf (accSetCall s i v .reply) ≡ acc-tests s i
+unfolding accSetCall
+acc-set-number s i v = acc-changed s i _
+
+set-acc-phys-number : (s : Cpu) (i acc ext : ℕ) → numberOf (setAccPhysCall s i acc ext .reply) ≡ acc-tests s i
+unfolding setAccPhysCall
+set-acc-phys-number s i acc ext = acc-changed s i _
+
+set-macsr-number : (s : Cpu) (v : ℕ) → numberOf (setMacsrCall s v .reply) ≡ pick (admitted s) 0 2
+unfolding setMacsrCall numberOf
+set-macsr-number s v = by (admitted s)
+  where
+    by : (b : Bool) → numberOf (cond {A = Answer} b (doneWith (setMacsr (s .emac) v) s) (record { reply = NotAdmitted; cpu = s }) .reply) ≡ pick b 0 2
+    by true = refl
+    by false = refl
+
 -- ---- blocks and files: four tests
 
 abbrev four : Bool → Bool → Bool → Bool → ℕ
@@ -614,11 +868,12 @@ module _ (f : List ℕ) where
 -- ---- all of them
 
 pub reply-1 : Reply1
-reply-1 = record { step-1 = of-step-1; exception-1 = of-exception-1; interrupt-1 = of-interrupt-1; rte-1 = of-rte-1; push32-1 = of-push-1; pop32-1 = of-pop-1 }
+reply-1 = record { step-1 = of-step-1; run-1 = of-run-1; exception-1 = of-exception-1; interrupt-1 = of-interrupt-1; rte-1 = of-rte-1; push32-1 = of-push-1; pop32-1 = of-pop-1 }
 
 pub reply-2 : Reply2
 reply-2 = record {
   step-2 = of-step-2;
+  run-2 = of-run-2;
   exception-2 = of-exception-2;
   interrupt-2 = of-interrupt-2;
   rte-2 = of-rte-2;
@@ -627,13 +882,18 @@ reply-2 = record {
   set-sr-2 = λ s v. rw (set-sr-number s v) (not-2 s);
   ipl-2 = λ s. rw (told-number s (maskOf (s .sr))) (not-2 s);
   supervisor-2 = λ s. rw (told-number s _) (not-2 s);
+  acc-get-2 = λ s i. rw (acc-get-number s i) (acc-2 s i);
+  acc-phys-2 = λ s i. rw (acc-phys-number s i) (acc-2 s i);
+  acc-set-2 = λ s i v. rw (acc-set-number s i v) (acc-2 s i);
+  set-acc-phys-2 = λ s i acc ext. rw (set-acc-phys-number s i acc ext) (acc-2 s i);
+  set-macsr-2 = λ s v. rw (set-macsr-number s v) (not-2 s);
 }
 
 pub reply-3 : Reply3
-reply-3 = record { step-3 = of-step-3 }
+reply-3 = record { step-3 = of-step-3; run-3 = of-run-3 }
 
 pub reply-4 : Reply4
-reply-4 = record { exception-4 = of-exception-4; interrupt-4 = of-interrupt-4; rte-4 = of-rte-4; push32-4 = of-push-4; pop32-4 = of-pop-4 }
+reply-4 = record { step-4 = of-step-4; load-4 = load-outside; store-4 = of-store-4; store-many-4 = of-store-many-4; load-many-4 = of-load-many-4; enter-4 = of-enter-4; return-4 = of-return-4; push-status-4 = of-push-status-4; exception-4 = of-exception-4; interrupt-4 = of-interrupt-4; rte-4 = of-rte-4; push32-4 = of-push-4; pop32-4 = of-pop-4 }
 
 pub reply-5 : Reply5
 reply-5 = record { step-5 = of-step-5 }
@@ -643,6 +903,10 @@ reply-6 = record {
   exception-6 = λ s m vector pc level. laws.iff-trans (of-exception-6 s m vector pc (To level)) (laws.iff-and laws.iff-same (laws.iff-not-lt level 8));
   exception-kept-6 = λ s m vector pc e. false≢true (sym (of-exception-6 s m vector pc Kept .0 e .1));
   interrupt-6 = of-interrupt-6;
+  acc-get-6 = λ s i. rw (acc-get-number s i) (acc-6 s i);
+  acc-phys-6 = λ s i. rw (acc-phys-number s i) (acc-6 s i);
+  acc-set-6 = λ s i v. rw (acc-set-number s i v) (acc-6 s i);
+  set-acc-phys-6 = λ s i acc ext. rw (set-acc-phys-number s i acc ext) (acc-6 s i);
 }
 
 pub reply-7 : Reply7

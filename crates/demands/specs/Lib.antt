@@ -10,3 +10,4 @@ pub mod ReplyLaws
 pub mod Exact
 pub mod Handmade
 pub mod Followed
+pub mod Admits

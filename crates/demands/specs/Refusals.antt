@@ -27,6 +27,7 @@ use Rattle.manual.specs.Reply.{numberOf, Outcome, completed, unchanged, refusal
 use Rattle.manual.specs.Admitted.{admitted, tooLong, checked}
 use Rattle.manual.specs.Differences.{vectorPlace}
 use Rattle.manual.specs.Exceptions.{setSr, handling, pcPlace, framePlace, framed, handlerState, entered, returned, left, levelTaken, masked, exception, interrupt, rte, push32, notPopped, pop32, setSrCall, told, ipl, supervisorCall}
+use Rattle.manual.specs.EmacCalls.{accGetCall, accSetCall, accPhysCall, setAccPhysCall, setMacsrCall}
 use Rattle.manual.specs.Block.{fresh, notRead, saysAdmitted, stateAt, readBlock, blockOf, Stored, storeBlock}
 use Rattle.instructions.specs.Perform.{statusPushed, act, perform}
 use Rattle.instructions.specs.Step.{execute, step}
@@ -50,6 +51,11 @@ pub record Refusals : Type 0 where
   pub of-set-sr : (s : Cpu) (v : ℕ) → NotZero (setSrCall s v .reply) → setSrCall s v .cpu ≡ s
   pub of-ipl : (s : Cpu) → NotZero (ipl s .reply) → ipl s .value ≡ 0
   pub of-supervisor : (s : Cpu) → NotZero (supervisorCall s .reply) → supervisorCall s .value ≡ 0
+  pub of-acc-get : (s : Cpu) (i : ℕ) → NotZero (accGetCall s i .reply) → accGetCall s i .value ≡ 0
+  pub of-acc-phys : (s : Cpu) (i : ℕ) → NotZero (accPhysCall s i .reply) → accPhysCall s i .value ≡ 0
+  pub of-acc-set : (s : Cpu) (i v : ℕ) → NotZero (accSetCall s i v .reply) → accSetCall s i v .cpu ≡ s
+  pub of-set-acc-phys : (s : Cpu) (i acc ext : ℕ) → NotZero (setAccPhysCall s i acc ext .reply) → setAccPhysCall s i acc ext .cpu ≡ s
+  pub of-set-macsr : (s : Cpu) (v : ℕ) → NotZero (setMacsrCall s v .reply) → setMacsrCall s v .cpu ≡ s
   pub of-read-block : (b : List ℕ) → NotZero (readBlock b .reply) → readBlock b .cpu ≡ fresh
   pub of-store-block : (s : Cpu) (b : List ℕ) → NotZero (storeBlock s b .reply) → storeBlock s b .bytes ≡ b
 
@@ -185,6 +191,40 @@ told-zero : (s : Cpu) (v : ℕ) → NotZero (told s v .reply) → told s v .valu
 unfolding told
 told-zero s v h = told-by (admitted s) v h
 
+acc-told-by : (a b : Bool) (v : ℕ)
+    → let o : Told = cond a (cond b (record { reply = Done; value = v }) (record { reply = OutOfRange; value = 0 })) (record { reply = NotAdmitted; value = 0 }) in
+    NotZero (o .reply) → o .value ≡ 0
+acc-told-by true true v h = absurd (done-not h)
+acc-told-by true false v h = refl
+acc-told-by false b v h = refl
+
+acc-get-zero : (s : Cpu) (i : ℕ) → NotZero (accGetCall s i .reply) → accGetCall s i .value ≡ 0
+unfolding accGetCall
+acc-get-zero s i h = acc-told-by (admitted s) (ltb i 4) _ h
+
+acc-phys-zero : (s : Cpu) (i : ℕ) → NotZero (accPhysCall s i .reply) → accPhysCall s i .value ≡ 0
+unfolding accPhysCall
+acc-phys-zero s i h = acc-told-by (admitted s) (ltb i 4) _ h
+
+acc-changed-by : (a b : Bool) (s t : Cpu)
+    → let o : Answer = cond a (cond b (record { reply = Done; cpu = t }) (record { reply = OutOfRange; cpu = s })) (record { reply = NotAdmitted; cpu = s }) in
+    NotZero (o .reply) → o .cpu ≡ s
+acc-changed-by true true s t h = absurd (done-not h)
+acc-changed-by true false s t h = refl
+acc-changed-by false b s t h = refl
+
+acc-set-kept : (s : Cpu) (i v : ℕ) → NotZero (accSetCall s i v .reply) → accSetCall s i v .cpu ≡ s
+unfolding accSetCall
+acc-set-kept s i v h = acc-changed-by (admitted s) (ltb i 4) s _ h
+
+set-acc-phys-kept : (s : Cpu) (i acc ext : ℕ) → NotZero (setAccPhysCall s i acc ext .reply) → setAccPhysCall s i acc ext .cpu ≡ s
+unfolding setAccPhysCall
+set-acc-phys-kept s i acc ext h = acc-changed-by (admitted s) (ltb i 4) s _ h
+
+set-macsr-kept : (s : Cpu) (v : ℕ) → NotZero (setMacsrCall s v .reply) → setMacsrCall s v .cpu ≡ s
+unfolding setMacsrCall
+set-macsr-kept s v h = set-sr-by (admitted s) s _ h
+
 read-by : (a b c d : Bool) (s : Cpu)
     → let o : Answer = cond a (notRead WrongLength) (cond b (cond c (cond d (record { reply = Done; cpu = s }) (notRead NotAdmitted)) (notRead WrongLength)) (notRead WrongVersion)) in
     NotZero (o .reply) → o .cpu ≡ fresh
@@ -221,6 +261,11 @@ refusals = record {
   of-set-sr = set-sr-kept;
   of-ipl = λ s. told-zero s _;
   of-supervisor = λ s. told-zero s _;
+  of-acc-get = acc-get-zero;
+  of-acc-phys = acc-phys-zero;
+  of-acc-set = acc-set-kept;
+  of-set-acc-phys = set-acc-phys-kept;
+  of-set-macsr = set-macsr-kept;
   of-read-block = read-fresh;
   of-store-block = store-kept;
 }

@@ -2,20 +2,33 @@
 --
 -- A run of budget n steps until n are done (reply 0) or one is refused (that reply). Its count, state and memory are those of that
 -- many steps, each of them done; a run that stops early stops at the first step that is refused. Replies 1 and 2 come first at
--- every budget, with count 0 and the state and memory as given. Assumes nothing.
+-- every budget, with count 0 and the state and memory as given. Memory stays as long as it was. Assumes nothing.
 use Prim.Native.Nat.{ℕ, zero, suc, _<_}
-use mathlib.Core.Path.{_≡_, refl, sym, ap}
+use mathlib.Core.Path.{_≡_, refl, sym, ap, _∙_}
 use mathlib.Core.Bool.{Bool, true, false, cond, false≢true}
 use mathlib.Core.List.{List}
 use mathlib.Core.Logic.{_⊎_, ⊎-elim, inl, inr}
 use native.Mathlib.Omega.{arith}
+use lib.ListN.{length}
 use Rattle.manual.specs.declared.Cpu.{Cpu}
 use Rattle.manual.specs.declared.Reply.{Reply}
 use Rattle.manual.specs.declared.Reply.the-variants.{Done, TooLong, NotAdmitted, Stopped, NotInside, NotCarried, OutOfRange, Masked, WrongVersion, WrongLength}
-use Rattle.manual.specs.Reply.{numberOf, isDone}
+use Rattle.manual.specs.declared.Level.{Level}
+use Rattle.manual.specs.declared.Level.the-variants.{Kept}
+use Rattle.manual.specs.declared.Action.{Action}
+use Rattle.manual.specs.declared.Action.the-variants.{Nothing, Store, StoreMany, LoadMany, Enter, Return, Status, Stop, PushStatus, Halt, Other, Accumulate, SetAcc, SetExt, SetMacsr, SetMask, CopyAcc, ClearAcc, Refuse}
+use Rattle.manual.specs.declared.Change.{Change}
+use Rattle.manual.specs.Word.{bytes, plus, minus}
+use Rattle.manual.specs.Registers.{addressOf, applied}
+use Rattle.manual.specs.Memory.{inside, manyInside}
+use Rattle.manual.specs.Differences.{vectorPlace}
+use Rattle.manual.specs.Exceptions.{setSr, handling, pcPlace, framePlace, framed, entered, left}
+use Rattle.manual.specs.Reply.{numberOf, isDone, Outcome, completed, unchanged}
 use Rattle.manual.specs.Admitted.{admitted, tooLong}
-use Rattle.instructions.specs.Step.{step}
+use Rattle.instructions.specs.Perform.{statusPushed, act, perform}
+use Rattle.instructions.specs.Step.{execute, step}
 use Rattle.instructions.specs.Run.{RunOutcome, ended, afterOne, steps, run}
+use Rattle.memory.specs.MemoryLaws.{length-store, length-stored-many}
 use Rattle.demands.specs.Refusals.{NotZero, step-kept}
 
 -- n steps, all of them done, lead from s and m to s′ and m′
@@ -34,6 +47,7 @@ pub record Runs : Type 0 where
   pub too-long : (budget : ℕ) (s : Cpu) (m : List ℕ) → tooLong m ≡ true → run budget s m ≡ ended TooLong 0 s m
   pub not-admitted : (budget : ℕ) (s : Cpu) (m : List ℕ) → tooLong m ≡ false → admitted s ≡ false → run budget s m ≡ ended NotAdmitted 0 s m
   pub that-many : (budget : ℕ) (s : Cpu) (m : List ℕ) → Steps (run budget s m .ran .count) s m (run budget s m .ran .cpu) (run budget s m .memory)
+  pub as-long : (budget : ℕ) (s : Cpu) (m : List ℕ) → length (run budget s m .memory) ≡ length m
   pub ends : (budget : ℕ) (s : Cpu) (m : List ℕ) → tooLong m ≡ false → admitted s ≡ true → Ends budget (run budget s m)
 
 -- ---- the proofs
@@ -85,6 +99,88 @@ steps-many (suc left) s m = by (isDone (step s m .stepped .reply)) refl (steps-m
         ap₂-step : {s′ : Cpu} {m′ : List ℕ} → s′ ≡ s → m′ ≡ m → step s′ m′ .stepped .reply ≡ step s m .stepped .reply
         ap₂-step p q = cc
 
+-- ---- memory stays as long as it was
+
+module _ (given : Cpu) (m : List ℕ) where
+  either-long : (b : Bool) (x y : Outcome) → length (x .memory) ≡ length m → length (y .memory) ≡ length m → length (cond b x y .memory) ≡ length m
+  either-long true x y p q = p
+  either-long false x y p q = q
+
+  tested-long : (b : Bool) (t : Cpu) (n : ℕ) (m′ : List ℕ) (r : Reply) → length m′ ≡ length m → length (cond b (completed t n m′) (unchanged given r m) .memory) ≡ length m
+  tested-long b t n m′ r e = either-long b (completed t n m′) (unchanged given r m) e refl
+
+  entered-long : (s : Cpu) (level : Level) (vector pc : ℕ) → length (entered given s level vector pc m .memory) ≡ length m
+  unfolding entered
+  entered-long s level vector pc =
+      let t : Cpu = setSr (handling level (s .sr)) s in
+      let sp : ℕ = addressOf (t .r) 7 in
+      let place : ℕ = vectorPlace (s .vbr) vector in
+      either-long (inside m (pcPlace sp) 4) _ (unchanged given NotInside m)
+      (either-long (inside m (framePlace sp) 4) _ (unchanged given NotInside m)
+      (tested-long (inside m place 4) _ vector (framed m sp vector (s .sr) pc) NotInside (simp length-store))
+      refl)
+      refl
+
+  left-long : (s : Cpu) → length (left given s m .memory) ≡ length m
+  unfolding left
+  left-long s =
+      let sp : ℕ = addressOf (s .r) 7 in
+      either-long (inside m sp 4) _ (unchanged given NotInside m) (tested-long (inside m (plus sp 4) 4) _ 0 m NotInside refl) refl
+
+  act-long : (s : Cpu) (a : Action) → length (act given s a m .memory) ≡ length m
+  unfolding statusPushed
+  act-long s Nothing = refl
+  act-long s (Store a z v) = tested-long (inside m a (bytes z)) s 0 _ NotInside (length-store m a (bytes z) v)
+  act-long s (StoreMany mask a) = tested-long (manyInside 16 m mask a) s 0 _ NotInside (length-stored-many 16 (s .r) 0 mask a m)
+  act-long s (LoadMany mask a) = tested-long (manyInside 16 m mask a) _ 0 m NotInside refl
+  act-long s (Enter vector pc) = entered-long s Kept vector pc
+  act-long s Return = left-long s
+  act-long s (Status v) = refl
+  act-long s (Stop v) = refl
+  act-long s (PushStatus v) = tested-long (inside m (minus (addressOf (s .r) 7) 4) 4) _ 0 _ NotInside (length-store m _ 4 (s .sr))
+  act-long s Halt = refl
+  act-long s (Other v) = refl
+  act-long s (Accumulate i scale sub x y) = refl
+  act-long s (SetAcc i v) = refl
+  act-long s (SetExt i v) = refl
+  act-long s (SetMacsr v) = refl
+  act-long s (SetMask v) = refl
+  act-long s (CopyAcc from to) = refl
+  act-long s (ClearAcc i) = refl
+  act-long s (Refuse n) = refl
+
+  pub step-long : length (step given m .memory) ≡ length m
+  unfolding step perform
+  step-long =
+      let c : Change = execute (given .r) (given .pc) (given .sr) (given .other) (given .emac) m in
+      either-long (tooLong m) (unchanged given TooLong m) _ refl
+      (either-long (admitted given) _ (unchanged given NotAdmitted m)
+      (either-long (given .stopped) (unchanged given Stopped m) _ refl (act-long (applied given c) (c .action)))
+      refl)
+
+steps-long : (budget : ℕ) (s : Cpu) (m : List ℕ) → length (steps budget s m .memory) ≡ length m
+unfolding steps
+steps-long zero s m = refl
+steps-long (suc left) s m =
+    by (isDone (step s m .stepped .reply)) (steps left (step s m .stepped .cpu) (step s m .memory))
+    (steps-long left (step s m .stepped .cpu) (step s m .memory) ∙ step-long s m)
+  where
+    by : (b : Bool) (r : RunOutcome) → length (r .memory) ≡ length m
+        → length (cond b (afterOne r) (ended (step s m .stepped .reply) 0 (step s m .stepped .cpu) (step s m .memory)) .memory) ≡ length m
+    by true r a = a
+    by false r a = step-long s m
+
+run-long : (budget : ℕ) (s : Cpu) (m : List ℕ) → length (run budget s m .memory) ≡ length m
+unfolding run
+run-long budget s m = by (tooLong m) (admitted s)
+  where
+    by : (a b : Bool) → length (cond a (ended TooLong 0 s m) (cond b (steps budget s m) (ended NotAdmitted 0 s m)) .memory) ≡ length m
+    by true b = refl
+    by false true = steps-long budget s m
+    by false false = refl
+
+-- ---- the tests before it
+
 run-too-long : (budget : ℕ) (s : Cpu) (m : List ℕ) → tooLong m ≡ true → run budget s m ≡ ended TooLong 0 s m
 unfolding run
 run-too-long budget s m h = rw h
@@ -113,5 +209,6 @@ runs = record {
   too-long = run-too-long;
   not-admitted = run-not-admitted;
   that-many = that-many;
+  as-long = run-long;
   ends = λ budget s m h k. rw (run-steps budget s m h k) (steps-many budget s m .1);
 }

@@ -1,0 +1,235 @@
+-- Every call given an admitted state returns one. Document: "A state is admitted when .. Every call keeps this."
+--
+-- What is admitted, in the document's words: SR has no bit outside 0xB71F, MACSR is at most 0xFFF, and each accumulator's number is in
+-- the range of its mode, 0 to 2^48-1 with FI clear and SU set, and -2^47 to 2^47-1 otherwise. Assumes nothing.
+use Prim.Native.Nat.{ℕ, zero, suc, _+_, _-_, _^_, _≤_, _<_}
+use mathlib.Core.Path.{_≡_, refl, sym, _∙_}
+use mathlib.Core.Bool.{Bool, true, false, cond, _&&_}
+use mathlib.Core.List.{List, []}
+use native.Mathlib.Omega.{arith}
+use lib.Bits.{bitAnd}
+use lib.Dec.{ltb, eqb}
+use lib.IntN.{pos}
+use lib.ListN.{length}
+use borrow.Author.Tests.{lt-ltb}
+use Rattle.manual.specs.declared.Cpu.{Cpu}
+use Rattle.manual.specs.declared.Level.{Level}
+use Rattle.manual.specs.declared.Level.the-variants.{Kept, To}
+use Rattle.manual.specs.declared.Reply.the-variants.{Done, TooLong, NotAdmitted, Stopped, NotInside, OutOfRange, Masked, WrongVersion, WrongLength}
+use Rattle.manual.specs.declared.Answer.{Answer}
+use Rattle.manual.specs.declared.Popped.{Popped}
+use Rattle.manual.specs.declared.Action.{Action}
+use Rattle.manual.specs.declared.Action.the-variants.{Nothing, Store, StoreMany, LoadMany, Enter, Return, Status, Stop, PushStatus, Halt, Other, Accumulate, SetAcc, SetExt, SetMacsr, SetMask, CopyAcc, ClearAcc, Refuse}
+use Rattle.manual.specs.declared.Change.{Change}
+use Rattle.manual.specs.declared.Mode.{Mode}
+use Rattle.manual.specs.Word.{bytes, minus, signedAt, inHalf}
+use Rattle.manual.specs.Registers.{addressOf, withAddress, withRegisters, applied}
+use Rattle.manual.specs.Memory.{inside, valueAt, manyInside, loadedMany}
+use Rattle.manual.specs.Emac.{modeOf, accOf, valueOf, inRange, inWhole, unsigned}
+use Rattle.manual.specs.EmacCalls.{accSetCall, setAccPhysCall, setMacsrCall}
+use Rattle.manual.specs.Reply.{Outcome, completed, unchanged, isDone}
+use Rattle.manual.specs.Admitted.{status, admitted, emacAdmitted, tooLong, checked}
+use Rattle.manual.specs.Exceptions.{setSr, entered, left, levelTaken, masked, exception, interrupt, rte, push32, notPopped, pop32, setSrCall}
+use Rattle.manual.specs.Block.{fresh, saysAdmitted, stateAt, notRead, readBlock}
+use Rattle.instructions.specs.Perform.{statusPushed, act, perform}
+use Rattle.instructions.specs.Step.{execute, step}
+use Rattle.instructions.specs.Run.{RunOutcome, ended, afterOne, steps, run}
+use Rattle.word.specs.TestLaws.{by-lt}
+use Rattle.word.specs.SignedLaws.{signed-pos, signed-neg}
+use Rattle.exceptions.specs.MaskLaws.{status-mask}
+use Rattle.exceptions.specs.AdmittedLaws.{admitted-status, admitted-emac, registers-admitted, address-admitted, other-admitted, stopped-admitted, emac-admitted, applied-admitted, set-sr-admitted, refusal-admitted, either-outcome, entered-admitted, left-admitted}
+use Rattle.emac.specs.EmacKept as emac
+use Rattle.emac.specs.CallsKept as calls
+
+-- what an admitted state is
+pub record Means (s : Cpu) : Type 0 where
+  pub sr-bits : bitAnd (s .sr) 0xB71F ≡ s .sr
+  pub macsr-bits : s .emac .macsr ≤ 0xFFF
+  pub in-range : (i : ℕ) → let k : Mode = modeOf (s .emac .macsr) in inRange k (valueOf k (accOf (s .emac) i)) ≡ true
+
+pub record Admits : Type 0 where
+  pub means : (s : Cpu) → s .sr < 2 ^ 16 → admitted s ≡ true → Means s
+  pub by-step : (s : Cpu) (m : List ℕ) → admitted s ≡ true → admitted (step s m .stepped .cpu) ≡ true
+  pub by-run : (budget : ℕ) (s : Cpu) (m : List ℕ) → admitted s ≡ true → admitted (run budget s m .ran .cpu) ≡ true
+  pub by-exception : (s : Cpu) (m : List ℕ) (vector pc : ℕ) (level : Level) → admitted s ≡ true → admitted (exception s m vector pc level .stepped .cpu) ≡ true
+  pub by-interrupt : (s : Cpu) (m : List ℕ) (vector level : ℕ) → admitted s ≡ true → admitted (interrupt s m vector level .stepped .cpu) ≡ true
+  pub by-rte : (s : Cpu) (m : List ℕ) → admitted s ≡ true → admitted (rte s m .stepped .cpu) ≡ true
+  pub by-push32 : (s : Cpu) (m : List ℕ) (v : ℕ) → admitted s ≡ true → admitted (push32 s m v .stepped .cpu) ≡ true
+  pub by-pop32 : (s : Cpu) (m : List ℕ) → admitted s ≡ true → admitted (pop32 s m .cpu) ≡ true
+  pub by-set-sr : (s : Cpu) (v : ℕ) → admitted s ≡ true → admitted (setSrCall s v .cpu) ≡ true
+  pub by-acc-set : (s : Cpu) (i v : ℕ) → admitted s ≡ true → admitted (accSetCall s i v .cpu) ≡ true
+  pub by-set-acc-phys : (s : Cpu) (i acc ext : ℕ) → acc < 2 ^ 32 → ext < 2 ^ 16 → admitted s ≡ true → admitted (setAccPhysCall s i acc ext .cpu) ≡ true
+  pub by-set-macsr : (s : Cpu) (v : ℕ) → admitted s ≡ true → admitted (setMacsrCall s v .cpu) ≡ true
+  -- a block is given no state, and a refused read returns the fresh one
+  pub fresh-state : admitted fresh ≡ true
+  pub by-read-block : (b : List ℕ) → admitted (readBlock b .cpu) ≡ true
+
+-- ---- the proofs
+
+fresh-admitted : admitted fresh ≡ true
+unfolding fresh admitted emacAdmitted accOf status
+fresh-admitted = refl
+
+-- an instruction's action
+module _ (given s : Cpu) (m : List ℕ) (k : admitted given ≡ true) (h : admitted s ≡ true) where
+  tested : (b : Bool) (t : Cpu) (m′ : List ℕ) → admitted t ≡ true → admitted (cond b (completed t 0 m′) (unchanged given NotInside m) .stepped .cpu) ≡ true
+  tested b t m′ a = either-outcome b (completed t 0 m′) (unchanged given NotInside m) a (refusal-admitted given NotInside k)
+
+  act-admitted : (a : Action) → admitted (act given s a m .stepped .cpu) ≡ true
+  unfolding statusPushed
+  act-admitted Nothing = h
+  act-admitted (Store a z v) = tested (inside m a (bytes z)) s _ h
+  act-admitted (StoreMany mask a) = tested (manyInside 16 m mask a) s _ h
+  act-admitted (LoadMany mask a) = tested (manyInside 16 m mask a) (withRegisters (loadedMany 16 m 0 mask a (s .r)) s) m (registers-admitted _ s h)
+  act-admitted (Enter vector pc) = entered-admitted given s Kept vector pc m k h
+  act-admitted Return = left-admitted given s m k h
+  act-admitted (Status v) = set-sr-admitted v s (admitted-emac s h)
+  act-admitted (Stop v) = stopped-admitted true (setSr v s) (set-sr-admitted v s (admitted-emac s h))
+  act-admitted (PushStatus v) =
+      let t : Cpu = withAddress 7 (minus (addressOf (s .r) 7) 4) s in
+      tested (inside m (minus (addressOf (s .r) 7) 4) 4) (setSr v t) _ (set-sr-admitted v t (admitted-emac t (address-admitted 7 _ s h)))
+  act-admitted Halt = stopped-admitted true s h
+  act-admitted (Other v) = other-admitted v s h
+  act-admitted (Accumulate i scale sub x y) = emac-admitted _ s (emac.accumulate-kept (s .emac) (admitted-emac s h) i scale sub x y) h
+  act-admitted (SetAcc i v) = emac-admitted _ s (emac.move-to-kept (s .emac) (admitted-emac s h) i v) h
+  act-admitted (SetExt i v) = emac-admitted _ s (emac.set-ext-kept (s .emac) (admitted-emac s h) i v) h
+  act-admitted (SetMacsr v) = emac-admitted _ s (emac.set-macsr-kept (s .emac) (admitted-emac s h) v) h
+  act-admitted (SetMask v) = emac-admitted _ s (emac.set-mask-kept (s .emac) (admitted-emac s h) v) h
+  act-admitted (CopyAcc from to) = emac-admitted _ s (emac.copy-acc-kept (s .emac) (admitted-emac s h) from to) h
+  act-admitted (ClearAcc i) = emac-admitted _ s (emac.clear-acc-kept (s .emac) (admitted-emac s h) i) h
+  act-admitted (Refuse n) = refusal-admitted given n k
+
+perform-admitted : (s : Cpu) (c : Change) (m : List ℕ) → admitted s ≡ true → admitted (perform s c m .stepped .cpu) ≡ true
+unfolding perform
+perform-admitted s c m h = act-admitted s (applied s c) m h (applied-admitted s c h) (c .action)
+
+module _ (s : Cpu) (m : List ℕ) (h : admitted s ≡ true) where
+  checked-admitted : (o : Outcome) → admitted (o .stepped .cpu) ≡ true → admitted (checked s m o .stepped .cpu) ≡ true
+  checked-admitted o a =
+      either-outcome (tooLong m) (unchanged s TooLong m) (cond (admitted s) o (unchanged s NotAdmitted m)) (refusal-admitted s TooLong h)
+      (either-outcome (admitted s) o (unchanged s NotAdmitted m) a (refusal-admitted s NotAdmitted h))
+
+  step-admitted : admitted (step s m .stepped .cpu) ≡ true
+  unfolding step
+  step-admitted =
+      checked-admitted _
+      (either-outcome (s .stopped) (unchanged s Stopped m) _ (refusal-admitted s Stopped h)
+      (perform-admitted s (execute (s .r) (s .pc) (s .sr) (s .other) (s .emac) m) m h))
+
+  exception-admitted : (vector pc : ℕ) (level : Level) → admitted (exception s m vector pc level .stepped .cpu) ≡ true
+  unfolding exception
+  exception-admitted vector pc level =
+      checked-admitted _
+      (either-outcome (levelTaken level) (entered s s level vector pc m) (unchanged s OutOfRange m) (entered-admitted s s level vector pc m h h) (refusal-admitted s OutOfRange h))
+
+  interrupt-admitted : (vector level : ℕ) → admitted (interrupt s m vector level .stepped .cpu) ≡ true
+  unfolding interrupt
+  interrupt-admitted vector level =
+      let i : Outcome = entered s s (To level) vector (s .pc) m in
+      checked-admitted _
+      (either-outcome (ltb level 8) (cond (masked (s .sr) level) (unchanged s Masked m) i) (unchanged s OutOfRange m)
+      (either-outcome (masked (s .sr) level) (unchanged s Masked m) i (refusal-admitted s Masked h) (entered-admitted s s (To level) vector (s .pc) m h h))
+      (refusal-admitted s OutOfRange h))
+
+  rte-admitted : admitted (rte s m .stepped .cpu) ≡ true
+  unfolding rte
+  rte-admitted = checked-admitted _ (left-admitted s s m h h)
+
+  push-admitted : (v : ℕ) → admitted (push32 s m v .stepped .cpu) ≡ true
+  unfolding push32
+  push-admitted v =
+      let sp : ℕ = minus (addressOf (s .r) 7) 4 in
+      checked-admitted _ (tested s s m h h (inside m sp 4) (withAddress 7 sp s) _ (address-admitted 7 sp s h))
+
+  pop-admitted : admitted (pop32 s m .cpu) ≡ true
+  unfolding pop32
+  pop-admitted = by (tooLong m) (admitted s) (inside m (addressOf (s .r) 7) 4) _ (address-admitted 7 _ s h)
+    where
+      by : (a b c : Bool) (p : Popped) → admitted (p .cpu) ≡ true
+          → admitted (cond a (notPopped s TooLong) (cond b (cond c p (notPopped s NotInside)) (notPopped s NotAdmitted)) .cpu) ≡ true
+      by true b c p e = h
+      by false true true p e = e
+      by false true false p e = h
+      by false false c p e = h
+
+  set-sr-call-admitted : (v : ℕ) → admitted (setSrCall s v .cpu) ≡ true
+  unfolding setSrCall
+  set-sr-call-admitted v = by (admitted s)
+    where
+      by : (b : Bool) → admitted (cond {A = Answer} b (record { reply = Done; cpu = setSr v s }) (record { reply = NotAdmitted; cpu = s }) .cpu) ≡ true
+      by true = set-sr-admitted v s (admitted-emac s h)
+      by false = h
+
+steps-admitted : (budget : ℕ) (s : Cpu) (m : List ℕ) → admitted s ≡ true → admitted (steps budget s m .ran .cpu) ≡ true
+unfolding steps
+steps-admitted zero s m h = h
+steps-admitted (suc left) s m h =
+    by (isDone (step s m .stepped .reply)) (steps left (step s m .stepped .cpu) (step s m .memory)) (steps-admitted left (step s m .stepped .cpu) (step s m .memory) (step-admitted s m h))
+  where
+    by : (b : Bool) (r : RunOutcome) → admitted (r .ran .cpu) ≡ true
+        → admitted (cond b (afterOne r) (ended (step s m .stepped .reply) 0 (step s m .stepped .cpu) (step s m .memory)) .ran .cpu) ≡ true
+    by true r a = a
+    by false r a = step-admitted s m h
+
+run-admitted : (budget : ℕ) (s : Cpu) (m : List ℕ) → admitted s ≡ true → admitted (run budget s m .ran .cpu) ≡ true
+unfolding run
+run-admitted budget s m h = by (tooLong m) (admitted s)
+  where
+    by : (a b : Bool) → admitted (cond a (ended TooLong 0 s m) (cond b (steps budget s m) (ended NotAdmitted 0 s m)) .ran .cpu) ≡ true
+    by true b = h
+    by false true = steps-admitted budget s m h
+    by false false = h
+
+-- a block that is read says an admitted state
+first-of : (a b : Bool) → (a && b) ≡ true → a ≡ true
+first-of true b h = refl
+first-of false b h = h
+
+says-admitted : (b : List ℕ) → saysAdmitted b ≡ true → admitted (stateAt b) ≡ true
+unfolding saysAdmitted
+says-admitted b h = first-of (admitted (stateAt b)) _ h
+
+read-admitted : (b : List ℕ) → admitted (readBlock b .cpu) ≡ true
+unfolding readBlock
+read-admitted b = by (ltb (length b) 5) (eqb (valueAt b 0 1) 1) (eqb (length b) 128 && eqb (valueAt b 1 4) 123) (saysAdmitted b) refl
+  where
+    by : (x y z w : Bool) → saysAdmitted b ≡ w
+        → admitted (cond {A = Answer} x (notRead WrongLength) (cond y (cond z (cond w (record { reply = Done; cpu = stateAt b }) (notRead NotAdmitted)) (notRead WrongLength)) (notRead WrongVersion)) .cpu) ≡ true
+    by true y z w e = fresh-admitted
+    by false true true true e = says-admitted b e
+    by false true true false e = fresh-admitted
+    by false true false w e = fresh-admitted
+    by false false z w e = fresh-admitted
+
+-- the number that a pattern of 48 bits stands for is in range
+range : (k : Mode) (a : ℕ) → a < 2 ^ 48 → inRange k (valueOf k a) ≡ true
+range k a h = by (unsigned k)
+  where
+    by : (u : Bool) → cond u (inWhole (2 ^ 48) (cond u (pos a) (signedAt (2 ^ 47) a))) (inHalf (2 ^ 47) (cond u (pos a) (signedAt (2 ^ 47) a))) ≡ true
+    by true = lt-ltb a (2 ^ 48) h
+    by false = by-lt a (2 ^ 47) (λ l. rw (signed-pos (2 ^ 47) a l) (lt-ltb a (2 ^ 47) l)) (λ l. rw (signed-neg (2 ^ 47) a l) (lt-ltb (2 ^ 47 + 2 ^ 47 - suc a) (2 ^ 47) (omega arith)))
+
+means : (s : Cpu) → s .sr < 2 ^ 16 → admitted s ≡ true → Means s
+means s small h = record {
+  sr-bits = sym (status-mask (s .sr) small) ∙ admitted-status s h;
+  macsr-bits = omega (arith, emac.macsr-small (s .emac) (admitted-emac s h));
+  in-range = λ i. range (modeOf (s .emac .macsr)) (accOf (s .emac) i) (emac.acc-small (s .emac) (admitted-emac s h) i);
+}
+
+pub admits : Admits
+admits = record {
+  means = means;
+  by-step = step-admitted;
+  by-run = run-admitted;
+  by-exception = λ s m vector pc level h. exception-admitted s m h vector pc level;
+  by-interrupt = λ s m vector level h. interrupt-admitted s m h vector level;
+  by-rte = rte-admitted;
+  by-push32 = λ s m v h. push-admitted s m h v;
+  by-pop32 = pop-admitted;
+  by-set-sr = λ s v h. set-sr-call-admitted s [] h v;
+  by-acc-set = λ s i v h. calls.acc-set-kept s h i v;
+  by-set-acc-phys = λ s i acc ext a b h. calls.set-acc-phys-kept s h i acc ext a b;
+  by-set-macsr = λ s v h. calls.set-macsr-call-kept s h v;
+  fresh-state = fresh-admitted;
+  by-read-block = read-admitted;
+}
