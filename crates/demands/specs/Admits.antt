@@ -186,7 +186,6 @@ first-of true b h = refl
 first-of false b h = h
 
 says-admitted : (b : List ℕ) → saysAdmitted b ≡ true → admitted (stateAt b) ≡ true
-unfolding saysAdmitted
 says-admitted b h = first-of (admitted (stateAt b)) _ h
 
 read-admitted : (b : List ℕ) → admitted (readBlock b .cpu) ≡ true

@@ -11,3 +11,4 @@ pub mod Exact
 pub mod Handmade
 pub mod Followed
 pub mod Admits
+pub mod Determined

@@ -1,0 +1,100 @@
+-- Determined: any two outcomes that a call's promise allows are equal, in reply, state, values, memory, block and text.
+-- Each promise is an equation of the whole outcome with a definition, so one lemma serves them all. Assumes nothing.
+use mathlib.Core.Path.{_≡_, sym, _∙_}
+use mathlib.Core.List.{List}
+use Prim.Native.Nat.{ℕ}
+use Rattle.manual.specs.declared.Cpu.{Cpu}
+use Rattle.manual.specs.declared.Level.{Level}
+use Rattle.manual.specs.declared.Reply.{Reply}
+use Rattle.manual.specs.Exceptions.{exception, interrupt, rte, push32, pop32, setSrCall, ipl, supervisorCall}
+use Rattle.manual.specs.EmacCalls.{accGetCall, accSetCall, accPhysCall, setAccPhysCall, setMacsrCall}
+use Rattle.manual.specs.Block.{fresh, readBlock, storeBlock}
+use Rattle.manual.specs.Image.{loadImage, runText, answerLine, textOf}
+use Rattle.instructions.specs.Step.{step}
+use Rattle.instructions.specs.Run.{run}
+use Rattle.harness.specs.Calls.{stepOn, runOn, rteOn, exceptionOn, interruptOn}
+
+-- what a promise allows is what is equal to x; two such outcomes are equal
+abbrev pub Determined : {A : Type 0} → A → Type 0
+Determined {A} x = (one two : A) → one ≡ x → two ≡ x → one ≡ two
+
+determined : {A : Type 0} (x : A) → Determined x
+determined x one two p q = p ∙ sym q
+
+pub step-determined : (s : Cpu) (m : List ℕ) → Determined (step s m)
+step-determined s m = determined (step s m)
+
+pub run-determined : (budget : ℕ) (s : Cpu) (m : List ℕ) → Determined (run budget s m)
+run-determined budget s m = determined (run budget s m)
+
+pub exception-determined : (s : Cpu) (m : List ℕ) (vector pc : ℕ) (level : Level) → Determined (exception s m vector pc level)
+exception-determined s m vector pc level = determined (exception s m vector pc level)
+
+pub interrupt-determined : (s : Cpu) (m : List ℕ) (vector level : ℕ) → Determined (interrupt s m vector level)
+interrupt-determined s m vector level = determined (interrupt s m vector level)
+
+pub rte-determined : (s : Cpu) (m : List ℕ) → Determined (rte s m)
+rte-determined s m = determined (rte s m)
+
+pub push-determined : (s : Cpu) (m : List ℕ) (v : ℕ) → Determined (push32 s m v)
+push-determined s m v = determined (push32 s m v)
+
+pub pop-determined : (s : Cpu) (m : List ℕ) → Determined (pop32 s m)
+pop-determined s m = determined (pop32 s m)
+
+pub set-sr-determined : (s : Cpu) (v : ℕ) → Determined (setSrCall s v)
+set-sr-determined s v = determined (setSrCall s v)
+
+pub ipl-determined : (s : Cpu) → Determined (ipl s)
+ipl-determined s = determined (ipl s)
+
+pub supervisor-determined : (s : Cpu) → Determined (supervisorCall s)
+supervisor-determined s = determined (supervisorCall s)
+
+pub acc-get-determined : (s : Cpu) (i : ℕ) → Determined (accGetCall s i)
+acc-get-determined s i = determined (accGetCall s i)
+
+pub acc-set-determined : (s : Cpu) (i v : ℕ) → Determined (accSetCall s i v)
+acc-set-determined s i v = determined (accSetCall s i v)
+
+pub acc-phys-determined : (s : Cpu) (i : ℕ) → Determined (accPhysCall s i)
+acc-phys-determined s i = determined (accPhysCall s i)
+
+pub set-acc-phys-determined : (s : Cpu) (i acc ext : ℕ) → Determined (setAccPhysCall s i acc ext)
+set-acc-phys-determined s i acc ext = determined (setAccPhysCall s i acc ext)
+
+pub set-macsr-determined : (s : Cpu) (v : ℕ) → Determined (setMacsrCall s v)
+set-macsr-determined s v = determined (setMacsrCall s v)
+
+pub fresh-determined : Determined fresh
+fresh-determined = determined fresh
+
+pub read-block-determined : (b : List ℕ) → Determined (readBlock b)
+read-block-determined b = determined (readBlock b)
+
+pub store-block-determined : (s : Cpu) (b : List ℕ) → Determined (storeBlock s b)
+store-block-determined s b = determined (storeBlock s b)
+
+pub read-image-determined : (f m : List ℕ) → Determined (loadImage f m)
+read-image-determined f m = determined (loadImage f m)
+
+pub run-text-determined : (n : Reply) (count : ℕ) (s : Cpu) → Determined (textOf (runText n count s))
+run-text-determined n count s = determined (textOf (runText n count s))
+
+pub answer-text-determined : (n : Reply) → Determined (textOf (answerLine n))
+answer-text-determined n = determined (textOf (answerLine n))
+
+pub host-step-determined : (b m : List ℕ) → Determined (stepOn b m)
+host-step-determined b m = determined (stepOn b m)
+
+pub host-run-determined : (b m : List ℕ) (budget : ℕ) → Determined (runOn b m budget)
+host-run-determined b m budget = determined (runOn b m budget)
+
+pub host-rte-determined : (b m : List ℕ) → Determined (rteOn b m)
+host-rte-determined b m = determined (rteOn b m)
+
+pub host-exception-determined : (b m : List ℕ) (vector pc : ℕ) (level : Level) → Determined (exceptionOn b m vector pc level)
+host-exception-determined b m vector pc level = determined (exceptionOn b m vector pc level)
+
+pub host-interrupt-determined : (b m : List ℕ) (vector level : ℕ) → Determined (interruptOn b m vector level)
+host-interrupt-determined b m vector level = determined (interruptOn b m vector level)
