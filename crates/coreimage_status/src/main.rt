@@ -1,4 +1,4 @@
-// Runs the image file on standard input, and prints what came of it.
+// `coreimage` on a file whose status register is not admitted.
 use imagerun::answer;
 use libc::STDIN_FILENO;
 use libc::STDOUT_FILENO;

@@ -1,1 +1,2 @@
 pub mod ImageRun
+pub mod TextLaws
