@@ -690,8 +690,14 @@ fn runs(c: &mut Compare, r: &mut Random) {
     for i in 0..8192u32 {
         let supervisor = r.of_100(70);
         let mut s = state(r, supervisor);
+        if r.of_100(80) {
+            s.a = std::array::from_fn(|_| 0x600 + r.below(0x400));
+            s.d = std::array::from_fn(|_| if r.of_100(60) { r.below(64) } else { data(r) });
+            s.other = 0x700;
+            s.vbr = 0x40;
+        }
         let mut mem = memory(r, &s, LENGTH);
-        for _ in 0..6 {
+        for _ in 0..8 {
             let from = (0x100 + r.below(0xE00)) & !1;
             program(r, &mut mem, from);
         }

@@ -137,51 +137,53 @@ impl Oracle {
         (answer, done as u64)
     }
 
-    fn call(
-        &mut self,
-        block: &mut [u8],
-        mem: &mut [u8],
-        refusal: impl FnOnce(&State) -> Option<Reply>,
-        f: impl FnOnce(&mut Cpu),
-    ) -> (Reply, u64) {
-        let after = Self::opened(block, mem).and_then(|s| match refusal(&s) {
-            Some(r) => Err(r),
-            None => self.perform(&s, mem, f),
-        });
-        match after {
-            Ok(s) => {
+    /// A call that is not a step: `f` on the original, or its refusal.
+    fn call(&mut self, block: &mut [u8], mem: &mut [u8], f: impl FnOnce(&mut Cpu) -> Option<Reply>) -> (Reply, u64) {
+        let mut refusal = None;
+        let before = match Self::opened(block, mem) {
+            Ok(s) => s,
+            Err(r) => return (r, 0),
+        };
+        let after = self.perform(&before, mem, |c| refusal = f(c));
+        match (refusal, after) {
+            (Some(r), _) | (None, Err(r)) => (r, 0),
+            (None, Ok(s)) => {
                 block.copy_from_slice(&s.to_block());
                 (Reply::Done, 0)
             }
-            Err(r) => (r, 0),
         }
     }
 
     pub fn exception(&mut self, block: &mut [u8], mem: &mut [u8], vector: u8, pc: u32) -> (Reply, u64) {
-        self.call(block, mem, |_| None, |c| c.exception(vector, pc, None))
+        self.call(block, mem, |c| {
+            c.exception(vector, pc, None);
+            None
+        })
     }
 
     pub fn exception_at(&mut self, block: &mut [u8], mem: &mut [u8], vector: u8, pc: u32, level: u8) -> (Reply, u64) {
-        let refusal = |_: &State| (level > 7).then_some(Reply::BadNumber);
-        self.call(block, mem, refusal, |c| c.exception(vector, pc, Some(level)))
+        self.call(block, mem, |c| {
+            if level > 7 {
+                return Some(Reply::BadNumber);
+            }
+            c.exception(vector, pc, Some(level));
+            None
+        })
     }
 
     pub fn interrupt(&mut self, block: &mut [u8], mem: &mut [u8], vector: u8, level: u8) -> (Reply, u64) {
-        let refusal = |s: &State| {
+        self.call(block, mem, |c| {
             if level > 7 {
-                Some(Reply::BadNumber)
-            } else if level < 7 && level as u16 <= s.sr >> 8 & 7 {
-                Some(Reply::Masked)
-            } else {
-                None
+                return Some(Reply::BadNumber);
             }
-        };
-        self.call(block, mem, refusal, |c| {
-            c.interrupt(vector, level);
+            (!c.interrupt(vector, level)).then_some(Reply::Masked)
         })
     }
 
     pub fn rte(&mut self, block: &mut [u8], mem: &mut [u8]) -> (Reply, u64) {
-        self.call(block, mem, |_| None, |c| c.rte())
+        self.call(block, mem, |c| {
+            c.rte();
+            None
+        })
     }
 }
