@@ -345,11 +345,36 @@ fn likely(r: &mut Random) -> u16 {
     }
 }
 
-/// A memory of likely words from `from` on.
+/// A word without extension words whose operand is a register or lies where A0 to A6 point.
+fn tame(r: &mut Random) -> u16 {
+    const COMMON: [u16; 30] = [
+        0x2000, 0x1000, 0x3000, 0x2080, 0x20C0, 0x2100, 0x10C0, 0x3080, 0x7100, 0x7180, 0x7140, 0xD080, 0x9080, 0xB080,
+        0xC080, 0xD180, 0xB180, 0x5080, 0x5180, 0x4A80, 0x4A00, 0x4280, 0x4240, 0xC0C0, 0xC1C0, 0xD1C0, 0xA140, 0xA100,
+        0x0100, 0x01C0,
+    ];
+    let number = (r.below(8) as u16) << 9;
+    let ea = if r.of_100(50) { r.below(8) as u16 } else { (2 + r.below(3) as u16) << 3 | r.below(7) as u16 };
+    match r.below(10) {
+        0 => 0x7000 | number | r.below(256) as u16,
+        1 => 0xE080 | r.word() & 0x0F2F,
+        2 => 0x6000 | (2 + r.below(14) as u16) << 8 | 2 * (1 + r.below(6) as u16),
+        3 => r.pick(&[0x4E71, 0x4480, 0x4080, 0x4680, 0x4840, 0x49C0, 0x48C0, 0x4C80, 0x50C0, 0x57C0, 0xA180, 0xA980]) | ea & 7,
+        4 => r.pick(&[0x4E73, 0x4E75, 0x4E40, 0x4E41, 0x4AFC, 0x6104, 0x4ACC, 0xF000, 0x4E68, 0x40C0]),
+        _ => match r.pick(&COMMON) {
+            // The destination is the word's, not ours: An or (An).
+            op @ 0xA100 => op | number & 0x0600 | ea,
+            op @ (0x4A80 | 0x4A00 | 0x4280 | 0x4240) => op | ea,
+            op => op | number | ea,
+        },
+    }
+}
+
+/// A memory of tame or likely words from `from` on.
 fn program(r: &mut Random, mem: &mut [u8], from: u32) {
     let mut at = from;
+    let share = r.pick(&[0, 90, 98]);
     while (at as usize) < mem.len() {
-        let op = likely(r);
+        let op = if r.of_100(share) { tame(r) } else { likely(r) };
         let words: &[u16] = if op & 0xF100 == 0xA000 { &[op, r.word() | 0x800] } else { &[op] };
         for w in words {
             put(mem, at, &w.to_be_bytes());
