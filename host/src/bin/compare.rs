@@ -397,6 +397,8 @@ struct Compare {
     replies: BTreeMap<(&'static str, u8), u64>,
     vectors: BTreeMap<u64, u64>,
     steps_in_runs: u64,
+    /// Which words a step has completed, as user and as supervisor.
+    completed: [Vec<bool>; 2],
     start: Instant,
     said: u64,
 }
@@ -407,6 +409,9 @@ impl Compare {
         let got = case.got();
         self.cases += 1;
         *self.replies.entry((family, want.reply.number())).or_insert(0) += 1;
+        if let (Call::Step, Reply::Done, Some(op)) = (case.call, want.reply, case.word()) {
+            self.completed[(case.block[73] >> 5 & 1) as usize][op as usize] = true;
+        }
         match case.call {
             Call::Step if want.value != 0 => *self.vectors.entry(want.value).or_insert(0) += 1,
             Call::Run(_) => self.steps_in_runs += want.value,
@@ -978,6 +983,7 @@ fn main() {
         replies: BTreeMap::new(),
         vectors: BTreeMap::new(),
         steps_in_runs: 0,
+        completed: [vec![false; 0x10000], vec![false; 0x10000]],
         start: Instant::now(),
         said: 0,
     };
@@ -1004,6 +1010,8 @@ fn main() {
     }
     let vectors: Vec<String> = c.vectors.iter().map(|(v, n)| format!("{v}: {n}")).collect();
     println!("vectors entered by steps: {}; steps done in runs: {}", vectors.join(", "), c.steps_in_runs);
+    let [user, supervisor] = [0, 1].map(|i| c.completed[i].iter().filter(|&&b| b).count());
+    println!("words completed at least once: {user} as user, {supervisor} as supervisor, of 61438 that do not answer 5");
     if c.differ > 0 {
         println!("differing, by call, word and the two replies:");
         for (key, (n, _)) in c.groups.iter().take(60) {
