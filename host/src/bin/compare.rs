@@ -1,0 +1,1038 @@
+//! `compare ROUNDS SEED`: every call of the archive against the original, on directed and random
+//! cases. Reply, vector or count, the whole block and the whole memory must be equal. Repeatable:
+//! the same rounds and seed make the same cases. Exit 1 on a difference.
+
+#[cfg(not(original))]
+compile_error!("the original's cpu.rs was not found: give its path in ORACLE_CPU_RS");
+
+#[path = "../oracle/bus.rs"]
+#[allow(dead_code)]
+mod bus;
+#[path = "../oracle/fast.rs"]
+#[allow(dead_code)]
+mod fast;
+#[path = "../oracle/jit.rs"]
+#[allow(dead_code)]
+mod jit;
+#[path = "../oracle/oracle.rs"]
+mod oracle;
+include!(concat!(env!("OUT_DIR"), "/original.rs"));
+
+use host::{Reply, State, BLOCK, MEMORY_LIMIT};
+use oracle::Oracle;
+use std::collections::BTreeMap;
+use std::time::Instant;
+
+// -- random numbers -----------------------------------------------------------
+
+/// xorshift64*.
+struct Random(u64);
+
+impl Random {
+    fn new(seed: u64) -> Random {
+        let mut r = Random(seed.wrapping_mul(0x9E37_79B9_7F4A_7C15) ^ 0xD1B5_4A32_D192_ED03);
+        if r.0 == 0 {
+            r.0 = 1;
+        }
+        for _ in 0..8 {
+            r.next();
+        }
+        r
+    }
+    fn next(&mut self) -> u64 {
+        self.0 ^= self.0 >> 12;
+        self.0 ^= self.0 << 25;
+        self.0 ^= self.0 >> 27;
+        self.0.wrapping_mul(0x2545_F491_4F6C_DD1D)
+    }
+    fn long(&mut self) -> u32 {
+        (self.next() >> 32) as u32
+    }
+    fn word(&mut self) -> u16 {
+        (self.next() >> 48) as u16
+    }
+    fn below(&mut self, n: u32) -> u32 {
+        ((self.long() as u64 * n as u64) >> 32) as u32
+    }
+    /// True in `n` of 100.
+    fn of_100(&mut self, n: u32) -> bool {
+        self.below(100) < n
+    }
+    fn pick<T: Copy>(&mut self, from: &[T]) -> T {
+        from[self.below(from.len() as u32) as usize]
+    }
+}
+
+// -- cases ----------------------------------------------------------------------
+
+#[derive(Clone, Copy, Debug, PartialEq)]
+enum Call {
+    Step,
+    Run(u32),
+    Exception(u8, u32),
+    ExceptionAt(u8, u32, u8),
+    Interrupt(u8, u8),
+    Rte,
+}
+
+#[derive(Clone)]
+struct Case {
+    call: Call,
+    block: Vec<u8>,
+    mem: Vec<u8>,
+}
+
+struct Answer {
+    reply: Reply,
+    value: u64,
+    block: Vec<u8>,
+    mem: Vec<u8>,
+}
+
+impl Case {
+    fn of(call: Call, state: &State, mem: Vec<u8>) -> Case {
+        Case { call, block: state.to_block().to_vec(), mem }
+    }
+
+    fn expected(&self, o: &mut Oracle) -> Answer {
+        let (mut block, mut mem) = (self.block.clone(), self.mem.clone());
+        let (b, m) = (&mut block[..], &mut mem[..]);
+        let (reply, value) = match self.call {
+            Call::Step => o.step(b, m),
+            Call::Run(n) => o.run(b, m, n),
+            Call::Exception(v, pc) => o.exception(b, m, v, pc),
+            Call::ExceptionAt(v, pc, l) => o.exception_at(b, m, v, pc, l),
+            Call::Interrupt(v, l) => o.interrupt(b, m, v, l),
+            Call::Rte => o.rte(b, m),
+        };
+        Answer { reply, value, block, mem }
+    }
+
+    fn got(&self) -> Answer {
+        let (mut block, mut mem) = (self.block.clone(), self.mem.clone());
+        let (b, m) = (&mut block[..], &mut mem[..]);
+        let (reply, value) = match self.call {
+            Call::Step => {
+                let (r, v) = host::step(b, m);
+                (r, v as u64)
+            }
+            Call::Run(n) => {
+                let (r, c) = host::run(b, m, n);
+                (r, c as u64)
+            }
+            Call::Exception(v, pc) => (host::exception(b, m, v, pc), 0),
+            Call::ExceptionAt(v, pc, l) => (host::exception_at(b, m, v, pc, l), 0),
+            Call::Interrupt(v, l) => (host::interrupt(b, m, v, l), 0),
+            Call::Rte => (host::rte(b, m), 0),
+        };
+        Answer { reply, value, block, mem }
+    }
+
+    /// The opcode word, where the block can be read and PC is inside.
+    fn word(&self) -> Option<u16> {
+        if self.block.len() < 73 {
+            return None;
+        }
+        let pc = u32::from_be_bytes(self.block[69..73].try_into().unwrap()) as usize;
+        self.mem.get(pc..pc + 2).map(|b| u16::from_be_bytes([b[0], b[1]]))
+    }
+}
+
+fn same(a: &Answer, b: &Answer) -> bool {
+    a.reply == b.reply && a.value == b.value && a.block == b.block && a.mem == b.mem
+}
+
+// -- aimed states ---------------------------------------------------------------
+
+const LENGTH: u32 = 4096;
+const EDGES: [u32; 12] = [
+    0,
+    1,
+    2,
+    0x7F,
+    0x80,
+    0x7FFF,
+    0x8000,
+    0xFFFF,
+    0x7FFF_FFFF,
+    0x8000_0000,
+    0x8000_0001,
+    0xFFFF_FFFF,
+];
+
+fn edge(r: &mut Random) -> u32 {
+    r.pick(&EDGES)
+}
+
+/// A data register: small (as an index it stays inside), an edge or anything.
+fn data(r: &mut Random) -> u32 {
+    match r.below(8) {
+        0..=2 => r.below(128),
+        3 => (r.below(96) as i32 - 48) as u32,
+        4 | 5 => edge(r),
+        6 => {
+            let shift = r.below(32);
+            r.long() >> shift
+        }
+        _ => r.long(),
+    }
+}
+
+/// An address register: mostly well inside.
+fn pointer(r: &mut Random) -> u32 {
+    match r.below(32) {
+        0 => edge(r),
+        1 => r.long(),
+        2 => LENGTH - r.below(12),
+        3 => r.below(12),
+        4 => 0u32.wrapping_sub(r.below(12)),
+        5..=8 => 0x200 + r.below(0xC00),
+        _ => (0x200 + r.below(0xC00)) & !3,
+    }
+}
+
+/// An accumulator in the range of the mode.
+fn accumulator(r: &mut Random, macsr: u32) -> i64 {
+    let raw = match r.below(8) {
+        0 => r.pick(&[0u64, 1, (1 << 47) - 1, 1 << 47, (1 << 48) - 1, 0x7FFF_FFFF, 0x8000_0000, 0xFFFF_FFFF]),
+        1 => r.pick(&[0x1_0000_0000u64, 0x7F_FFFF_FF00, 0x80_0000_0000, 0xFF80_0000_0000, 0xFFFF_8000_0000, 0xFFFF_7FFF_FFFF]),
+        2 => r.long() as u64,
+        3 => (r.long() as i32 as i64) as u64,
+        4 => {
+            let low = r.pick(&[0x80u64, 0x180, 0x80_0000, 0x180_0000, 0x7F, 0x81, 0x7F_FFFF]);
+            (r.next() << r.pick(&[8, 24, 32])) | low
+        }
+        5 => ((r.next() as i64) >> r.below(64)) as u64,
+        6 => {
+            let base = r.pick(&[0x7FFF_FFFFu64, 0x7FFF_FFFF_FFFF, 0xFFFF_FFFF_FFFF, 0x7F_FFFF_FFFF, 0x8000_0000_0000]);
+            base.wrapping_add(r.below(16) as u64).wrapping_sub(8)
+        }
+        _ => r.next(),
+    };
+    let raw = raw & ((1 << 48) - 1);
+    if macsr & 0x60 == 0x40 {
+        raw as i64
+    } else {
+        ((raw << 16) as i64) >> 16
+    }
+}
+
+fn state(r: &mut Random, supervisor: bool) -> State {
+    let macsr = if r.of_100(20) { 0 } else { r.below(0x1000) };
+    let mut s = State {
+        d: std::array::from_fn(|_| data(r)),
+        a: std::array::from_fn(|_| pointer(r)),
+        pc: (0x100 + r.below(0xE00)) & !1,
+        sr: r.word() & 0xB71F & !0x2000,
+        other: pointer(r),
+        vbr: match r.below(16) {
+            0 => r.long(),
+            1 => r.below(LENGTH),
+            2 => edge(r),
+            _ => r.below(0xC00) & !3,
+        },
+        cacr: r.pick(&[0, 0x20, 0xFFFF_FFFF, 0xFFFF_FFDF]),
+        macsr,
+        mask: match r.below(4) {
+            0 => 0xFFFF_0000 | r.word() as u32,
+            1 => r.long() | 0xFFF,
+            _ => 0xFFFF_FFFF,
+        },
+        acc: std::array::from_fn(|_| accumulator(r, macsr)),
+        stopped: false,
+    };
+    if r.of_100(90) {
+        s.a[7] = 0x100 + r.below(0xE00);
+        if r.of_100(70) {
+            s.a[7] &= !3;
+        }
+        s.other = 0x100 + r.below(0xE00);
+    }
+    if supervisor {
+        s.sr |= 0x2000;
+    }
+    s
+}
+
+fn put(mem: &mut [u8], at: u32, bytes: &[u8]) {
+    for (i, b) in bytes.iter().enumerate() {
+        if let Some(m) = mem.get_mut(at.wrapping_add(i as u32) as usize) {
+            *m = *b;
+        }
+    }
+}
+
+/// Random bytes, and vectors that lie inside.
+fn memory(r: &mut Random, s: &State, len: u32) -> Vec<u8> {
+    let mut mem = Vec::with_capacity(len as usize + 8);
+    let kind = r.below(4);
+    while mem.len() < len as usize {
+        let v = match kind {
+            0 => 0,
+            1 => (data(r) as u64) << 32 | data(r) as u64,
+            _ => r.next(),
+        };
+        mem.extend_from_slice(&v.to_be_bytes());
+    }
+    mem.truncate(len as usize);
+    if r.of_100(85) {
+        for v in 0..48 {
+            let handler = (r.below(LENGTH - 8)) & !1;
+            put(&mut mem, s.vbr.wrapping_add(4 * v), &handler.to_be_bytes());
+        }
+    }
+    mem
+}
+
+/// The word at PC and extension words that mostly lead inside.
+fn write_code(r: &mut Random, mem: &mut [u8], pc: u32, op: u16) {
+    put(mem, pc, &op.to_be_bytes());
+    let small = |r: &mut Random| r.below(LENGTH - 16) as u16;
+    let near = |r: &mut Random| (r.below(256) as i32 - 128) as u16;
+    let mut words = [0u16; 6];
+    match r.below(8) {
+        // An absolute long in either place.
+        0 | 1 => words = [0, small(r), 0, small(r), 0, small(r)],
+        2 => words = [r.word(), 0, small(r), 0, small(r), 0],
+        3 => words = std::array::from_fn(|_| small(r)),
+        4 => words = std::array::from_fn(|_| near(r)),
+        5 => words = [r.word(), small(r), near(r), near(r), small(r), 0],
+        6 => {
+            for w in &mut words {
+                *w = edge(r) as u16
+            }
+        }
+        _ => words = std::array::from_fn(|_| r.word()),
+    }
+    if op & 0xF100 == 0xA000 {
+        words[0] = r.word();
+        if r.of_100(90) {
+            words[0] |= 0x0800;
+        }
+        if r.of_100(80) {
+            words[1] = near(r);
+        }
+    }
+    if op == 0x40E7 && r.of_100(80) {
+        words[0] = 0x46FC;
+    }
+    for (i, w) in words.iter().enumerate() {
+        put(mem, pc.wrapping_add(2 + 2 * i as u32), &w.to_be_bytes());
+    }
+}
+
+fn aimed(r: &mut Random, op: u16, supervisor: bool) -> (State, Vec<u8>) {
+    let s = state(r, supervisor);
+    let mut mem = memory(r, &s, LENGTH);
+    write_code(r, &mut mem, s.pc, op);
+    (s, mem)
+}
+
+/// A word that belongs to a row more often than not.
+fn likely(r: &mut Random) -> u16 {
+    const COMMON: [u16; 40] = [
+        0x2000, 0x2018, 0x20C0, 0x2080, 0x1018, 0x3028, 0x7000, 0x7180, 0xD080, 0x9080, 0xB080, 0xC080, 0xE088, 0xE1A8,
+        0x5280, 0x5388, 0x6602, 0x6700, 0x60FE, 0x6104, 0x4E71, 0x4E75, 0x4E73, 0x4E40, 0x4A80, 0x4280, 0x4480, 0x4080,
+        0x41E8, 0x4840, 0x48D0, 0x4CD0, 0x4C00, 0x4C40, 0xA000, 0xA098, 0xA100, 0xA180, 0xA900, 0x4E90,
+    ];
+    let base = r.pick(&COMMON);
+    match r.below(8) {
+        0 => r.word(),
+        1 | 2 => base,
+        3 | 4 => base ^ (r.below(8) as u16),
+        5 => base ^ (r.below(8) as u16) << 9,
+        _ => base ^ (r.below(64) as u16) ^ (r.below(8) as u16) << 9,
+    }
+}
+
+/// A word without extension words whose operand is a register or lies where A0 to A6 point.
+fn tame(r: &mut Random) -> u16 {
+    const COMMON: [u16; 30] = [
+        0x2000, 0x1000, 0x3000, 0x2080, 0x20C0, 0x2100, 0x10C0, 0x3080, 0x7100, 0x7180, 0x7140, 0xD080, 0x9080, 0xB080,
+        0xC080, 0xD180, 0xB180, 0x5080, 0x5180, 0x4A80, 0x4A00, 0x4280, 0x4240, 0xC0C0, 0xC1C0, 0xD1C0, 0xA140, 0xA100,
+        0x0100, 0x01C0,
+    ];
+    let number = (r.below(8) as u16) << 9;
+    let ea = if r.of_100(50) { r.below(8) as u16 } else { (2 + r.below(3) as u16) << 3 | r.below(7) as u16 };
+    match r.below(10) {
+        0 => 0x7000 | number | r.below(256) as u16,
+        1 => 0xE080 | r.word() & 0x0F2F,
+        2 => 0x6000 | (2 + r.below(14) as u16) << 8 | 2 * (1 + r.below(6) as u16),
+        3 => r.pick(&[0x4E71, 0x4480, 0x4080, 0x4680, 0x4840, 0x49C0, 0x48C0, 0x4C80, 0x50C0, 0x57C0, 0xA180, 0xA980]) | ea & 7,
+        4 => r.pick(&[0x4E73, 0x4E75, 0x4E40, 0x4E41, 0x4AFC, 0x6104, 0x4ACC, 0xF000, 0x4E68, 0x40C0]),
+        _ => match r.pick(&COMMON) {
+            // The destination is the word's, not ours: An or (An).
+            op @ 0xA100 => op | number & 0x0600 | ea,
+            op @ (0x4A80 | 0x4A00 | 0x4280 | 0x4240) => op | ea,
+            op => op | number | ea,
+        },
+    }
+}
+
+/// A memory of tame or likely words from `from` on.
+fn program(r: &mut Random, mem: &mut [u8], from: u32) {
+    let mut at = from;
+    let share = r.pick(&[0, 90, 98]);
+    while (at as usize) < mem.len() {
+        let op = if r.of_100(share) { tame(r) } else { likely(r) };
+        let words: &[u16] = if op & 0xF100 == 0xA000 { &[op, r.word() | 0x800] } else { &[op] };
+        for w in words {
+            put(mem, at, &w.to_be_bytes());
+            at = at.wrapping_add(2);
+        }
+        if at == 0 || at - from > 200 {
+            break;
+        }
+    }
+}
+
+// -- the comparison ---------------------------------------------------------------
+
+struct Compare {
+    oracle: Oracle,
+    cases: u64,
+    differ: u64,
+    shown: Vec<(&'static str, Case)>,
+    groups: BTreeMap<String, (u64, Case)>,
+    replies: BTreeMap<(&'static str, u8), u64>,
+    vectors: BTreeMap<u64, u64>,
+    steps_in_runs: u64,
+    /// Which words a step has completed, as user and as supervisor.
+    completed: [Vec<bool>; 2],
+    start: Instant,
+    said: u64,
+}
+
+impl Compare {
+    fn check(&mut self, family: &'static str, case: Case) {
+        let want = case.expected(&mut self.oracle);
+        let got = case.got();
+        self.cases += 1;
+        *self.replies.entry((family, want.reply.number())).or_insert(0) += 1;
+        if let (Call::Step, Reply::Done, Some(op)) = (case.call, want.reply, case.word()) {
+            self.completed[(case.block[73] >> 5 & 1) as usize][op as usize] = true;
+        }
+        match case.call {
+            Call::Step if want.value != 0 => *self.vectors.entry(want.value).or_insert(0) += 1,
+            Call::Run(_) => self.steps_in_runs += want.value,
+            _ => {}
+        }
+        if !same(&want, &got) {
+            self.differ += 1;
+            let kind = match case.call {
+                Call::Step => "step",
+                Call::Run(_) => "run",
+                Call::Exception(..) => "exception",
+                Call::ExceptionAt(..) => "exception_at",
+                Call::Interrupt(..) => "interrupt",
+                Call::Rte => "rte",
+            };
+            let op = match (case.call, case.word()) {
+                (Call::Step, Some(w)) => format!("{:04X}/F1C0", w & 0xF1C0),
+                _ => String::from("-"),
+            };
+            let key = format!("{kind} {op} replies {} {}", want.reply.number(), got.reply.number());
+            self.groups.entry(key).or_insert((0, case.clone())).0 += 1;
+            if self.shown.len() < 5 {
+                self.shown.push((family, case));
+            }
+        }
+        if self.cases % 1024 == 0 && self.start.elapsed().as_secs() / 10 > self.said {
+            self.said = self.start.elapsed().as_secs() / 10;
+            println!("{} s: {} cases, {} differ", self.start.elapsed().as_secs(), self.cases, self.differ);
+        }
+    }
+
+    /// Whether `t` differs as `case` does: the same word and the same two replies.
+    fn differs_alike(&mut self, case: &Case, t: &Case) -> bool {
+        if t.call == Call::Step && t.word() != case.word() {
+            return false;
+        }
+        let (want, got) = (t.expected(&mut self.oracle), t.got());
+        let (first, second) = (case.expected(&mut self.oracle), case.got());
+        !same(&want, &got) && (want.reply, got.reply) == (first.reply, second.reply)
+    }
+
+    /// A smaller case that still differs in the same way: fields and bytes made 0.
+    fn shrink(&mut self, case: &Case) -> Case {
+        let mut c = case.clone();
+        if let Call::Run(n) = c.call {
+            for m in 0..n {
+                let t = Case { call: Call::Run(m), ..c.clone() };
+                if self.differs_alike(case, &t) {
+                    c = t;
+                    break;
+                }
+            }
+        }
+        if c.block.len() == BLOCK {
+            let mut fields: Vec<(usize, usize)> = (0..17).map(|i| (5 + 4 * i, 4)).collect();
+            fields.push((73, 2));
+            fields.extend((0..5).map(|i| (75 + 4 * i, 4)));
+            fields.extend((0..4).map(|i| (95 + 8 * i, 8)));
+            for (at, n) in fields {
+                let mut t = c.clone();
+                t.block[at..at + n].fill(0);
+                if t.block != c.block && self.differs_alike(case, &t) {
+                    c = t;
+                    continue;
+                }
+                for i in at..at + n {
+                    let mut t = c.clone();
+                    t.block[i] = 0;
+                    if t.block != c.block && self.differs_alike(case, &t) {
+                        c = t;
+                    }
+                }
+            }
+        }
+        if c.mem.len() <= 1 << 16 {
+            let mut chunk = c.mem.len().next_power_of_two();
+            while chunk > 0 {
+                let mut at = 0;
+                while at < c.mem.len() {
+                    let end = (at + chunk).min(c.mem.len());
+                    if c.mem[at..end].iter().any(|&b| b != 0) {
+                        let mut t = c.clone();
+                        t.mem[at..end].fill(0);
+                        if self.differs_alike(case, &t) {
+                            c = t;
+                        }
+                    }
+                    at = end;
+                }
+                chunk /= 2;
+            }
+        }
+        c
+    }
+
+    fn show(&mut self, case: &Case) {
+        let want = case.expected(&mut self.oracle);
+        let got = case.got();
+        println!("  call {:X?}, memory of {} bytes", case.call, case.mem.len());
+        match State::from_block(&case.block) {
+            Ok(s) => {
+                let at = |i: u32| {
+                    let a = s.pc.wrapping_add(i) as usize;
+                    case.mem.get(a..a + 2).map_or("----".into(), |b| format!("{:02X}{:02X}", b[0], b[1]))
+                };
+                println!("  words {} {} {} {} {}", at(0), at(2), at(4), at(6), at(8));
+                println!("  before   {}", brief(&s));
+            }
+            Err(r) => println!("  block refused with {}: {:02X?}", r.number(), case.block),
+        }
+        let bytes: Vec<String> = case
+            .mem
+            .iter()
+            .enumerate()
+            .filter(|(_, &b)| b != 0)
+            .take(128)
+            .map(|(i, b)| format!("{i:X}:{b:02X}"))
+            .collect();
+        println!("  memory   {} (others 0{})", bytes.join(" "), if bytes.len() == 128 { ", or cut here" } else { "" });
+        for (name, x) in [("expected", &want), ("got     ", &got)] {
+            let body = State::from_block(&x.block).map_or_else(|_| format!("{:02X?}", x.block), |s| brief(&s));
+            println!("  {name} reply {} value {} {}", x.reply.number(), x.value, body);
+        }
+        if let (Ok(w), Ok(g)) = (State::from_block(&want.block), State::from_block(&got.block)) {
+            let (w, g) = (text(&w), text(&g));
+            let parts: Vec<String> = w
+                .split(' ')
+                .zip(g.split(' '))
+                .filter(|(a, b)| a != b)
+                .map(|(a, b)| format!("{a} and {b}"))
+                .collect();
+            println!("  registers that differ: {}", if parts.is_empty() { "none".into() } else { parts.join(", ") });
+        }
+        let parts: Vec<String> = (0..want.mem.len())
+            .filter(|&i| want.mem[i] != got.mem[i])
+            .take(32)
+            .map(|i| format!("{i:X}: {:02X} and {:02X}", want.mem[i], got.mem[i]))
+            .collect();
+        println!("  memory that differs: {}", if parts.is_empty() { "none".into() } else { parts.join(", ") });
+    }
+}
+
+/// The registers that are not 0.
+fn brief(s: &State) -> String {
+    let all = text(s);
+    let kept: Vec<&str> = all
+        .split(' ')
+        .filter(|p| {
+            let (name, value) = p.split_once('=').unwrap_or((p, ""));
+            name == "pc" || name == "sr" || value.bytes().any(|b| b != b'0')
+        })
+        .collect();
+    kept.join(" ") + " (others 0)"
+}
+
+fn text(s: &State) -> String {
+    let mut out = String::new();
+    for (i, v) in s.d.iter().enumerate() {
+        out += &format!("d{i}={v:08X} ");
+    }
+    for (i, v) in s.a.iter().enumerate() {
+        out += &format!("a{i}={v:08X} ");
+    }
+    out += &format!("pc={:08X} sr={:04X} other={:08X} vbr={:08X} ", s.pc, s.sr, s.other, s.vbr);
+    out += &format!("cacr={:08X} macsr={:03X} mask={:08X} ", s.cacr, s.macsr, s.mask);
+    for (i, v) in s.acc.iter().enumerate() {
+        out += &format!("acc{i}={v:016X} ");
+    }
+    out + &format!("stopped={}", s.stopped as u8)
+}
+
+// -- families -----------------------------------------------------------------------
+
+fn words(c: &mut Compare, r: &mut Random) {
+    for op in 0..=0xFFFFu16 {
+        for supervisor in [false, true] {
+            let (s, mem) = aimed(r, op, supervisor);
+            c.check("every word", Case::of(Call::Step, &s, mem));
+        }
+    }
+}
+
+fn lengths(c: &mut Compare, r: &mut Random) {
+    for i in 0..16384u32 {
+        let op = if i % 4 == 0 { r.word() } else { likely(r) };
+        let supervisor = r.of_100(50);
+        let (mut s, mut mem) = aimed(r, op, supervisor);
+        let around = match r.below(8) {
+            0..=2 => s.pc.wrapping_add(r.below(12)),
+            3 => s.a[7].wrapping_add(8).wrapping_sub(r.below(20)),
+            4 => s.a[(op & 7) as usize].wrapping_add(8).wrapping_sub(r.below(16)),
+            5 => s.vbr.wrapping_add(4 * r.pick(&[4, 8, 10, 11, 32])).wrapping_add(r.below(6)),
+            6 => {
+                s.pc = r.below(16);
+                r.below(24)
+            }
+            _ => r.below(LENGTH),
+        };
+        let len = around.min(LENGTH) as usize;
+        write_code(r, &mut mem, s.pc, op);
+        mem.truncate(len);
+        c.check("lengths", Case::of(Call::Step, &s, mem));
+    }
+    // Every length from 0 to 40 with the code at 0, the stack and the table close by.
+    for len in 0..=40usize {
+        for _ in 0..16 {
+            let mut s = state(r, true);
+            s.pc = r.below(4);
+            s.a[7] = r.below(44);
+            s.vbr = 0u32.wrapping_sub(4 * r.pick(&[4, 5, 8, 10, 11, 32])).wrapping_add(r.below(40));
+            let op = likely(r);
+            let mut mem = memory(r, &s, 40);
+            write_code(r, &mut mem, s.pc, op);
+            mem.truncate(len);
+            c.check("lengths", Case::of(Call::Step, &s, mem.clone()));
+            c.check("lengths", Case::of(Call::Exception(r.below(64) as u8, r.long()), &s, mem.clone()));
+            c.check("lengths", Case::of(Call::Rte, &s, mem));
+        }
+    }
+}
+
+fn counters(c: &mut Compare, r: &mut Random) {
+    for i in 0..8192u32 {
+        let op = if i % 2 == 0 { r.word() } else { likely(r) };
+        let supervisor = r.of_100(50);
+        let mut s = state(r, supervisor);
+        s.pc = match r.below(6) {
+            0 => 0u32.wrapping_sub(r.below(8)),
+            1 => LENGTH - r.below(12),
+            2 => edge(r),
+            _ => r.below(LENGTH) | 1,
+        };
+        let mut mem = memory(r, &s, LENGTH);
+        write_code(r, &mut mem, s.pc, op);
+        c.check("odd and wrapping counters", Case::of(Call::Step, &s, mem));
+    }
+}
+
+/// The frame lies on the vector that is read, on the code, or both.
+fn overlaps(c: &mut Compare, r: &mut Random) {
+    for _ in 0..4096 {
+        let (op, vector): (u16, u32) = r.pick(&[
+            (0x4AFC, 4),
+            (0x4E40, 32),
+            (0x4E4F, 47),
+            (0xA1C0, 10),
+            (0xF000, 11),
+            (0x4E73, 8),
+            (0x4C40, 5),
+            (0x4E68, 8),
+        ]);
+        let (supervisor, near) = (r.of_100(30), r.below(14));
+        let mut s = state(r, supervisor);
+        let target = s.vbr.wrapping_add(4 * vector).wrapping_add(near);
+        s.a[7] = target;
+        s.other = target.wrapping_add(r.below(3));
+        s.d[0] = 0;
+        let mut mem = memory(r, &s, LENGTH);
+        write_code(r, &mut mem, s.pc, op);
+        c.check("frames on the table", Case::of(Call::Step, &s, mem.clone()));
+        s.stopped = r.of_100(50);
+        c.check("frames on the table", Case::of(Call::Exception(vector as u8, r.long()), &s, mem));
+    }
+}
+
+fn emac(c: &mut Compare, r: &mut Random) {
+    for macsr in 0..0x1000u32 {
+        for i in 0..8 {
+            let op = 0xA000 | if i < 5 { r.word() & 0x0EFF } else { r.word() & 0x0FFF };
+            let op = if i == 4 { op & !0x30 } else { op };
+            let supervisor = r.of_100(50);
+            let (mut s, mem) = aimed(r, op, supervisor);
+            s.macsr = macsr;
+            s.acc = std::array::from_fn(|_| accumulator(r, macsr));
+            if r.of_100(60) {
+                s.d = std::array::from_fn(|_| if r.of_100(50) { edge(r) } else { r.long() });
+            }
+            c.check("emac", Case::of(Call::Step, &s, mem));
+        }
+    }
+}
+
+/// Register operands at the edges.
+fn edges(c: &mut Compare, r: &mut Random) {
+    for _ in 0..16384 {
+        let line = r.pick(&[0u16, 2, 4, 5, 7, 9, 0xB, 0xC, 0xD, 0xE, 0xE]);
+        let mut op = (r.word() & 0x0FFF & !0x38) | line << 12;
+        match line {
+            4 => op = r.pick(&[0x4C00, 0x4C40, 0x4C40, 0x4080, 0x4480, 0x4680, 0x4C80, 0x49C0, 0x4880, 0x48C0, 0x4840]) | op & 7,
+            0xE => op = (op & !0xC0) | 0x80 | r.pick(&[0, 8, 0x20, 0x28]),
+            _ => {}
+        }
+        let supervisor = r.of_100(50);
+        let (mut s, mut mem) = aimed(r, op, supervisor);
+        s.d = std::array::from_fn(|_| if r.of_100(70) { edge(r) } else { r.below(70) });
+        s.a = std::array::from_fn(|i| if i == 7 { s.a[7] } else { edge(r) });
+        put(&mut mem, s.pc.wrapping_add(2), &[(r.word() & 0x7F) as u8 & 0x78, (r.word() & 7) as u8]);
+        if r.of_100(40) {
+            put(&mut mem, s.pc.wrapping_add(2), &edge(r).to_be_bytes());
+        }
+        c.check("edges", Case::of(Call::Step, &s, mem));
+    }
+}
+
+fn runs(c: &mut Compare, r: &mut Random) {
+    for i in 0..8192u32 {
+        let supervisor = r.of_100(70);
+        let mut s = state(r, supervisor);
+        if r.of_100(80) {
+            s.a = std::array::from_fn(|_| 0x600 + r.below(0x400));
+            s.d = std::array::from_fn(|_| if r.of_100(60) { r.below(64) } else { data(r) });
+            s.other = 0x700;
+            s.vbr = 0x40;
+        }
+        let mut mem = memory(r, &s, LENGTH);
+        for _ in 0..8 {
+            let from = (0x100 + r.below(0xE00)) & !1;
+            program(r, &mut mem, from);
+        }
+        program(r, &mut mem, s.pc);
+        if i % 16 == 0 {
+            s.stopped = true;
+        }
+        if i % 64 == 1 {
+            s.sr |= r.pick(&[0x20, 0x40, 0x80, 0x800, 0x4000]);
+        }
+        if i % 64 == 2 {
+            mem.truncate(r.below(LENGTH) as usize);
+        }
+        c.check("runs", Case::of(Call::Run(i % 21), &s, mem));
+    }
+}
+
+fn calls(c: &mut Compare, r: &mut Random) {
+    for i in 0..8192u32 {
+        let supervisor = r.of_100(60);
+        let mut s = state(r, supervisor);
+        s.stopped = r.of_100(20);
+        let mut mem = memory(r, &s, LENGTH);
+        let vector = if r.of_100(80) { r.below(64) as u8 } else { r.word() as u8 };
+        let level = (i / 4 % 10) as u8;
+        let pc = if r.of_100(50) { r.long() } else { s.pc };
+        let level = if r.of_100(3) { r.word() as u8 } else { level };
+        let call = match i % 4 {
+            0 => Call::Exception(vector, pc),
+            1 => Call::ExceptionAt(vector, pc, level),
+            2 => Call::Interrupt(vector, level),
+            _ => {
+                let w = (r.below(16) << 28) | (r.long() & 0x0FFF_0000) | r.word() as u32;
+                put(&mut mem, s.a[7], &w.to_be_bytes());
+                Call::Rte
+            }
+        };
+        if r.of_100(5) {
+            mem.truncate(s.a[7].wrapping_add(8).wrapping_sub(r.below(12)).min(LENGTH) as usize);
+        }
+        c.check("entries and returns", Case::of(call, &s, mem));
+    }
+    // Every mask and level.
+    for mask in 0..8u16 {
+        for level in 0..=9u8 {
+            let mut s = state(r, true);
+            s.sr = s.sr & !0x700 | mask << 8;
+            s.a[7] = 0x800;
+            s.other = 0x700;
+            s.vbr = 0x40;
+            let mem = memory(r, &s, LENGTH);
+            c.check("entries and returns", Case::of(Call::Interrupt(r.below(256) as u8, level), &s, mem.clone()));
+            c.check("entries and returns", Case::of(Call::ExceptionAt(r.below(256) as u8, 6, level), &s, mem));
+        }
+    }
+}
+
+fn any_call(r: &mut Random) -> Call {
+    match r.below(7) {
+        0 | 1 => Call::Step,
+        2 => Call::Run(r.below(4)),
+        3 => Call::Exception(r.below(64) as u8, r.long()),
+        4 => Call::ExceptionAt(r.below(64) as u8, r.long(), r.below(10) as u8),
+        5 => Call::Interrupt(r.below(64) as u8, r.below(10) as u8),
+        _ => Call::Rte,
+    }
+}
+
+fn refused(c: &mut Compare, r: &mut Random) {
+    for i in 0..4096u32 {
+        let op = likely(r);
+        let (mut s, mut mem) = aimed(r, op, i % 2 == 0);
+        if i % 8 == 7 {
+            s.stopped = true;
+        }
+        let call = any_call(r);
+        let mut block = s.to_block().to_vec();
+        match i % 6 {
+            0 => s.sr ^= 1 << r.below(16),
+            1 => s.macsr |= 1 << (12 + r.below(20)),
+            2 => {
+                let k = r.below(4) as usize;
+                s.acc[k] = match r.below(6) {
+                    0 => 1 << 47,
+                    1 => 1 << 48,
+                    2 => -1,
+                    3 => -(1 << 47) - 1,
+                    4 => -(1 << 47),
+                    _ => r.next() as i64,
+                };
+            }
+            3 => {
+                // The stopped byte alone.
+                block[127] = r.pick(&[0, 1, 2, 3, 0x80, 0xFF]);
+                c.check("states not admitted", Case { call, block, mem });
+                continue;
+            }
+            4 => {
+                let k = r.below(4) as usize;
+                s.acc[k] = s.acc[k] ^ 1 << (47 + r.below(17));
+            }
+            _ => {
+                // The mode changes under the accumulators.
+                s.macsr ^= 1 << r.pick(&[5, 6, 5, 6, 11, 12]);
+                if r.of_100(30) {
+                    mem.truncate(r.below(16) as usize);
+                }
+            }
+        }
+        c.check("states not admitted", Case::of(call, &s, mem));
+    }
+    for i in 0..2048u32 {
+        let op = likely(r);
+        let (mut s, mem) = aimed(r, op, i % 2 == 0);
+        if r.of_100(10) {
+            s.sr |= 0x40;
+        }
+        let call = any_call(r);
+        let mut block = s.to_block().to_vec();
+        match i % 8 {
+            0 => block.truncate(r.below(129) as usize),
+            1 => block.truncate(r.below(7) as usize),
+            2 => block[0] = r.word() as u8,
+            3 => block[1 + r.below(4) as usize] ^= 1 << r.below(8),
+            4 => block.extend((0..1 + r.below(5)).map(|_| 0)),
+            5 => {
+                block[0] = r.below(3) as u8;
+                block.truncate(r.below(129) as usize);
+            }
+            6 => {
+                block[4] = r.pick(&[122, 123, 124, 128]);
+                block.truncate(r.pick(&[127, 128]));
+            }
+            _ => {
+                let n = 5 + r.below(200) as usize;
+                block.resize(n, 0);
+                block[1..5].copy_from_slice(&(n as u32 - 5).to_be_bytes());
+            }
+        }
+        c.check("broken blocks", Case { call, block, mem });
+    }
+    for _ in 0..2048 {
+        let (op, supervisor) = (likely(r), r.of_100(50));
+        let (mut s, mut mem) = aimed(r, op, supervisor);
+        s.stopped = true;
+        if r.of_100(20) {
+            s.pc = r.long();
+        }
+        if r.of_100(10) {
+            mem.truncate(r.below(8) as usize);
+        }
+        let call = any_call(r);
+        c.check("stopped", Case::of(call, &s, mem));
+    }
+}
+
+/// Memories of 16 MiB, one byte less and one and some more.
+fn large(c: &mut Compare, r: &mut Random, round: u64) {
+    let extra: &[usize] = if round == 0 { &[0, 1, 5, MEMORY_LIMIT] } else { &[0, 1] };
+    let mut lengths = vec![MEMORY_LIMIT - 1];
+    lengths.extend(extra.iter().map(|n| MEMORY_LIMIT + n));
+    for len in lengths {
+        for k in 0..4u32 {
+            let mut s = state(r, true);
+            let top = MEMORY_LIMIT as u32;
+            s.pc = top - 2 * k.min(3) - 2 * (k / 2);
+            s.a[0] = top - r.below(5);
+            s.a[7] = top - r.below(3);
+            s.vbr = top - 4 * 36 + r.below(3);
+            let mut mem = vec![0u8; len];
+            let op = r.pick(&[0x2010, 0x1010, 0x2080, 0x4E40, 0x4E71]);
+            put(&mut mem, s.pc, &(op as u16).to_be_bytes());
+            let mut bad = s.clone();
+            bad.sr |= 0x20;
+            c.check("large memories", Case::of(Call::Step, &s, mem.clone()));
+            if k == 0 {
+                c.check("large memories", Case::of(Call::Run(0), &s, mem.clone()));
+                c.check("large memories", Case::of(Call::Interrupt(32, 8), &s, mem.clone()));
+                c.check("large memories", Case::of(Call::Exception(32, 0), &bad, mem));
+            } else if k == 1 {
+                c.check("large memories", Case::of(Call::Rte, &s, mem.clone()));
+                c.check("large memories", Case::of(Call::Run(2), &bad, mem));
+            } else if k == 2 {
+                let mut block = s.to_block().to_vec();
+                block[0] = 0;
+                c.check("large memories", Case { call: Call::Step, block, mem });
+            }
+        }
+    }
+}
+
+/// The paper's examples that are not proved from the definition: both sides, and the paper's numbers.
+fn by_hand(c: &mut Compare) {
+    let mut wrong = 0;
+    let mut hold = |c: &mut Compare, name: &str, case: Case, reply: u8, seen: &dyn Fn(&State) -> bool| {
+        let want = case.expected(&mut c.oracle);
+        let ok = want.reply.number() == reply && State::from_block(&want.block).is_ok_and(|s| seen(&s));
+        if !ok {
+            wrong += 1;
+            println!("by hand: {name}: the original gives {} {}", want.reply.number(), State::from_block(&want.block).map_or("".into(), |s| text(&s)));
+        }
+        c.check("by hand", case);
+    };
+    let base = || {
+        let mut s = State::fresh();
+        s.sr = 0x2700;
+        s.a[7] = 0x100;
+        s
+    };
+    // MOVE.L (A0),D0 in a memory of 16 bytes.
+    for (at, reply) in [(12u32, 0u8), (13, 4)] {
+        let mut s = base();
+        s.a[0] = at;
+        let mut mem = vec![0u8; 16];
+        mem[..2].copy_from_slice(&[0x20, 0x10]);
+        mem[12..].copy_from_slice(&[1, 2, 3, 4]);
+        let d0 = if reply == 0 { 0x0102_0304 } else { 0 };
+        hold(c, "a long at the end", Case::of(Call::Step, &s, mem), reply, &|s| s.d[0] == d0);
+    }
+    for (mask, level, reply) in [(3u16, 3u8, 7u8), (3, 4, 0), (7, 7, 0), (7, 8, 6)] {
+        let mut s = base();
+        s.sr = 0x2000 | mask << 8;
+        let mem = vec![0u8; 0x200];
+        let after = if reply == 0 { 0x2000 | (level as u16) << 8 } else { s.sr };
+        hold(c, "levels and masks", Case::of(Call::Interrupt(64, level), &s, mem), reply, &|s| s.sr == after);
+    }
+    // The sample program.
+    let mut mem = vec![0u8; 0xC000];
+    mem[..8].copy_from_slice(&[0x70, 0x05, 0x72, 0xFB, 0xD0, 0x81, 0x4A, 0xC8]);
+    hold(c, "the sample", Case::of(Call::Run(100), &base(), mem), 3, &|s| s.pc == 8 && s.sr == 0x2715 && s.d[1] == 0xFFFF_FFFB);
+    // A7 0x103, SR 0x2700, vector 32.
+    let mut s = base();
+    s.a[7] = 0x103;
+    hold(c, "the frame", Case::of(Call::Exception(32, 0), &s, vec![0u8; 0x200]), 0, &|s| s.a[7] == 0xF8);
+    if wrong > 0 {
+        println!("{wrong} of the paper's examples are not what the original gives");
+        c.differ += wrong;
+    }
+}
+
+fn main() {
+    let args: Vec<u64> = std::env::args().skip(1).map_while(|a| a.parse().ok()).collect();
+    let [rounds, seed] = args[..] else {
+        eprintln!("use: compare ROUNDS SEED");
+        std::process::exit(2);
+    };
+    let mut c = Compare {
+        oracle: Oracle::new(),
+        cases: 0,
+        differ: 0,
+        shown: Vec::new(),
+        groups: BTreeMap::new(),
+        replies: BTreeMap::new(),
+        vectors: BTreeMap::new(),
+        steps_in_runs: 0,
+        completed: [vec![false; 0x10000], vec![false; 0x10000]],
+        start: Instant::now(),
+        said: 0,
+    };
+    by_hand(&mut c);
+    for round in 0..rounds {
+        let mut r = Random::new(seed.wrapping_add(round.wrapping_mul(1_000_003)));
+        words(&mut c, &mut r);
+        lengths(&mut c, &mut r);
+        counters(&mut c, &mut r);
+        overlaps(&mut c, &mut r);
+        emac(&mut c, &mut r);
+        edges(&mut c, &mut r);
+        runs(&mut c, &mut r);
+        calls(&mut c, &mut r);
+        refused(&mut c, &mut r);
+        large(&mut c, &mut r, round);
+    }
+    let mut families: BTreeMap<&str, Vec<String>> = BTreeMap::new();
+    for ((family, reply), n) in &c.replies {
+        families.entry(family).or_default().push(format!("{reply}: {n}"));
+    }
+    for (family, counts) in families {
+        println!("{family}: replies {}", counts.join(", "));
+    }
+    let vectors: Vec<String> = c.vectors.iter().map(|(v, n)| format!("{v}: {n}")).collect();
+    println!("vectors entered by steps: {}; steps done in runs: {}", vectors.join(", "), c.steps_in_runs);
+    let [user, supervisor] = [0, 1].map(|i| c.completed[i].iter().filter(|&&b| b).count());
+    println!("words completed at least once: {user} as user, {supervisor} as supervisor, of 61438 that do not answer 5");
+    if c.differ > 0 {
+        println!("differing, by call, word and the two replies:");
+        for (key, (n, _)) in c.groups.iter().take(60) {
+            println!("  {n} {key}");
+        }
+        for (family, case) in std::mem::take(&mut c.shown) {
+            println!("differs ({family}):");
+            c.show(&case);
+            println!("  made smaller:");
+            let small = c.shrink(&case);
+            c.show(&small);
+        }
+        if std::env::var_os("WITNESSES").is_some() {
+            println!("one of each group, made smaller:");
+            for (key, (_, case)) in std::mem::take(&mut c.groups) {
+                println!("group {key}:");
+                let small = c.shrink(&case);
+                c.show(&small);
+            }
+        }
+    }
+    println!("{} cases, {} differ", c.cases, c.differ);
+    std::process::exit((c.differ > 0) as i32);
+}

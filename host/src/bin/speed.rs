@@ -1,0 +1,119 @@
+//! `speed [STEPS]`: the original's `execute` in a loop and the archive's `run` on the same programs
+//! (host/programs), alternating in one process. Prints nanoseconds a step, the best of seven, and
+//! the ratio: the archive's speed over the original's.
+
+#[cfg(not(original))]
+compile_error!("the original's cpu.rs was not found: give its path in ORACLE_CPU_RS");
+
+#[path = "../oracle/bus.rs"]
+#[allow(dead_code)]
+mod bus;
+#[path = "../oracle/fast.rs"]
+#[allow(dead_code)]
+mod fast;
+#[path = "../oracle/jit.rs"]
+#[allow(dead_code)]
+mod jit;
+include!(concat!(env!("OUT_DIR"), "/original.rs"));
+
+use bus::Bus;
+use cpu::Cpu;
+use host::{Reply, State};
+use std::path::PathBuf;
+use std::time::Instant;
+
+const MEMORY: usize = 49_152;
+const TIMES: usize = 7;
+
+/// The start of an image file: a state and a memory.
+fn load(bytes: &[u8]) -> (State, Vec<u8>) {
+    let long = |at: usize| u32::from_be_bytes(bytes[at..at + 4].try_into().unwrap());
+    assert!(bytes[0] == 1 && long(1) as usize == bytes.len() - 5, "an image file");
+    let mut s = State::fresh();
+    s.pc = long(5);
+    s.a[7] = long(9);
+    s.sr = u16::from_be_bytes([bytes[13], bytes[14]]);
+    let mut mem = vec![0; MEMORY];
+    mem[..bytes.len() - 19].copy_from_slice(&bytes[19..]);
+    (s, mem)
+}
+
+fn set(c: &mut Cpu, s: &State, mem: &[u8]) {
+    c.d = s.d;
+    c.a = s.a;
+    c.pc = s.pc;
+    c.sr = s.sr;
+    c.other_sp = s.other;
+    c.vbr = s.vbr;
+    c.cacr = s.cacr;
+    c.macsr = s.macsr;
+    c.mask = s.mask;
+    c.accv = s.acc;
+    c.stopped = s.stopped;
+    c.bus.outside = false;
+    c.bus.mem.clear();
+    c.bus.mem.extend_from_slice(mem);
+}
+
+fn get(c: &Cpu) -> State {
+    State {
+        d: c.d,
+        a: c.a,
+        pc: c.pc,
+        sr: c.sr,
+        other: c.other_sp,
+        vbr: c.vbr,
+        cacr: c.cacr,
+        macsr: c.macsr,
+        mask: c.mask,
+        acc: c.accv,
+        stopped: c.stopped,
+    }
+}
+
+/// The original's loop: it stops where `run` would.
+#[inline(never)]
+fn original(c: &mut Cpu, budget: u32) -> u32 {
+    let mut done = 0;
+    while done < budget && !c.stopped {
+        c.op_pc = c.pc;
+        c.execute();
+        if c.bus.outside {
+            break;
+        }
+        done += 1;
+    }
+    done
+}
+
+fn main() {
+    let steps: u32 = std::env::args().nth(1).map_or(2_000_000, |a| a.parse().expect("use: speed [STEPS]"));
+    let folder = PathBuf::from(env!("CARGO_MANIFEST_DIR")).join("programs");
+    let mut cpu = Cpu::new(Bus::new());
+    println!("{steps} steps, best of {TIMES}");
+    println!("{:8} {:>18} {:>18} {:>6}", "program", "original ns/step", "archive ns/step", "ratio");
+    for name in ["search", "copy", "dot"] {
+        let path = folder.join(format!("{name}.image"));
+        let bytes = std::fs::read(&path).unwrap_or_else(|e| panic!("{}: {e}", path.display()));
+        let (start, memory) = load(&bytes);
+        let mut best = [f64::INFINITY; 2];
+        for _ in 0..TIMES {
+            set(&mut cpu, &start, &memory);
+            let clock = Instant::now();
+            let done = original(&mut cpu, steps);
+            best[0] = best[0].min(clock.elapsed().as_nanos() as f64 / steps as f64);
+            assert_eq!(done, steps, "{name}: the original stopped");
+
+            let mut block = start.to_block();
+            let mut mem = memory.clone();
+            let clock = Instant::now();
+            let answer = host::run(&mut block, &mut mem, steps);
+            best[1] = best[1].min(clock.elapsed().as_nanos() as f64 / steps as f64);
+            assert_eq!(answer, (Reply::Done, steps), "{name}: the archive stopped");
+
+            assert_eq!(State::from_block(&block), Ok(get(&cpu)), "{name}: the states after {steps} steps");
+            assert!(mem == cpu.bus.mem, "{name}: the memories after {steps} steps");
+        }
+        println!("{name:8} {:18.2} {:18.2} {:6.2}", best[0], best[1], best[0] / best[1]);
+    }
+}

@@ -1,0 +1,207 @@
+//! A ColdFire core over lent memory, for Rust programs: safe functions over `libharness.a`.
+//!
+//! The state of the core is a block of 128 bytes ([`State`] writes and reads it), the memory a byte
+//! slice from address 0, big-endian, of at most 16,777,216 bytes. After [`Reply::Done`] the block
+//! holds the new state (in a run also after a refused step: the state after the steps done);
+//! otherwise block and memory are as they were.
+//!
+//! ```
+//! use host::{run, Reply, State};
+//!
+//! // MOVEQ #5,D0; MOVEQ #-5,D1; ADD.L D1,D0; HALT
+//! let mut mem = vec![0u8; 0x200];
+//! mem[..8].copy_from_slice(&[0x70, 0x05, 0x72, 0xFB, 0xD0, 0x81, 0x4A, 0xC8]);
+//! let mut state = State::fresh();
+//! state.sr = 0x2700;
+//! state.a[7] = 0x100;
+//! let mut block = state.to_block();
+//! // Four steps are done, and the fifth is refused: the core has stopped.
+//! assert_eq!(run(&mut block, &mut mem, 100), (Reply::Stopped, 4));
+//! let state = State::from_block(&block).unwrap();
+//! assert_eq!((state.d[0], state.pc, state.sr, state.stopped), (0, 8, 0x2715, true));
+//! ```
+
+mod ffi;
+
+/// The bytes of a state block.
+pub const BLOCK: usize = 128;
+/// The longest memory, in bytes.
+pub const MEMORY_LIMIT: usize = 16_777_216;
+
+/// What a call answers; the numbers are the paper's.
+#[derive(Clone, Copy, Debug, PartialEq, Eq, Hash, PartialOrd, Ord)]
+#[repr(u8)]
+pub enum Reply {
+    Done = 0,
+    MemoryTooLong = 1,
+    NotAdmitted = 2,
+    Stopped = 3,
+    Outside = 4,
+    NotCarried = 5,
+    BadNumber = 6,
+    Masked = 7,
+    BadVersion = 8,
+    BadLength = 9,
+}
+
+impl Reply {
+    pub const ALL: [Reply; 10] = [
+        Reply::Done,
+        Reply::MemoryTooLong,
+        Reply::NotAdmitted,
+        Reply::Stopped,
+        Reply::Outside,
+        Reply::NotCarried,
+        Reply::BadNumber,
+        Reply::Masked,
+        Reply::BadVersion,
+        Reply::BadLength,
+    ];
+
+    pub fn number(self) -> u8 {
+        self as u8
+    }
+
+    /// The reply of a number from 0 to 9.
+    pub fn of_number(n: u64) -> Option<Reply> {
+        Reply::ALL.get(usize::try_from(n).ok()?).copied()
+    }
+}
+
+fn reply(n: u64) -> Reply {
+    Reply::of_number(n).expect("the archive answers a number from 0 to 9")
+}
+
+/// The state of the core.
+#[derive(Clone, Debug, PartialEq, Eq)]
+pub struct State {
+    pub d: [u32; 8],
+    pub a: [u32; 8],
+    pub pc: u32,
+    pub sr: u16,
+    /// The inactive stack pointer.
+    pub other: u32,
+    pub vbr: u32,
+    pub cacr: u32,
+    pub macsr: u32,
+    pub mask: u32,
+    pub acc: [i64; 4],
+    pub stopped: bool,
+}
+
+impl State {
+    /// All 0 but MASK, which is all ones.
+    pub fn fresh() -> State {
+        State {
+            d: [0; 8],
+            a: [0; 8],
+            pc: 0,
+            sr: 0,
+            other: 0,
+            vbr: 0,
+            cacr: 0,
+            macsr: 0,
+            mask: 0xFFFF_FFFF,
+            acc: [0; 4],
+            stopped: false,
+        }
+    }
+
+    /// Whether SR, MACSR and the accumulators are ones that a core can have.
+    pub fn admitted(&self) -> bool {
+        let unsigned = self.macsr & 0x60 == 0x40;
+        let (low, high) = if unsigned { (0, (1i64 << 48) - 1) } else { (-(1i64 << 47), (1i64 << 47) - 1) };
+        self.sr & !0xB71F == 0 && self.macsr <= 0xFFF && self.acc.iter().all(|v| (low..=high).contains(v))
+    }
+
+    /// The block of this state: version 1, length 123, then the registers, big-endian.
+    pub fn to_block(&self) -> [u8; BLOCK] {
+        let mut bytes = Vec::with_capacity(BLOCK);
+        bytes.push(1);
+        bytes.extend_from_slice(&123u32.to_be_bytes());
+        for v in self.d.iter().chain(&self.a).chain([&self.pc]) {
+            bytes.extend_from_slice(&v.to_be_bytes());
+        }
+        bytes.extend_from_slice(&self.sr.to_be_bytes());
+        for v in [self.other, self.vbr, self.cacr, self.macsr, self.mask] {
+            bytes.extend_from_slice(&v.to_be_bytes());
+        }
+        for v in self.acc {
+            bytes.extend_from_slice(&v.to_be_bytes());
+        }
+        bytes.push(self.stopped as u8);
+        bytes.try_into().expect("the fields make 128 bytes")
+    }
+
+    /// The state in a block, or the reply of a call on it: 9, 8 or 2, in the paper's order.
+    pub fn from_block(block: &[u8]) -> Result<State, Reply> {
+        if block.len() < 5 {
+            return Err(Reply::BadLength);
+        }
+        if block[0] != 1 {
+            return Err(Reply::BadVersion);
+        }
+        if block.len() != BLOCK || block[1..5] != 123u32.to_be_bytes() {
+            return Err(Reply::BadLength);
+        }
+        let long = |at: usize| u32::from_be_bytes(block[at..at + 4].try_into().unwrap());
+        let state = State {
+            d: std::array::from_fn(|i| long(5 + 4 * i)),
+            a: std::array::from_fn(|i| long(37 + 4 * i)),
+            pc: long(69),
+            sr: u16::from_be_bytes([block[73], block[74]]),
+            other: long(75),
+            vbr: long(79),
+            cacr: long(83),
+            macsr: long(87),
+            mask: long(91),
+            acc: std::array::from_fn(|i| i64::from_be_bytes(block[95 + 8 * i..103 + 8 * i].try_into().unwrap())),
+            stopped: block[127] == 1,
+        };
+        if block[127] > 1 || !state.admitted() {
+            return Err(Reply::NotAdmitted);
+        }
+        Ok(state)
+    }
+}
+
+/// One instruction. The second value is the vector that it entered, or 0.
+pub fn step(block: &mut [u8], mem: &mut [u8]) -> (Reply, u8) {
+    // SAFETY: the pointers and lengths are those of two exclusive slices, kept no longer than the call.
+    let n = unsafe { ffi::step(block.as_mut_ptr(), block.len(), mem.as_mut_ptr(), mem.len()) };
+    (reply(n as u64 % 256), (n / 256) as u8)
+}
+
+/// Up to `budget` instructions. The second value is how many were done.
+pub fn run(block: &mut [u8], mem: &mut [u8], budget: u32) -> (Reply, u32) {
+    // SAFETY: as in `step`.
+    let n = unsafe { ffi::run(block.as_mut_ptr(), block.len(), mem.as_mut_ptr(), mem.len(), budget) };
+    (reply(n % 256), (n / 256) as u32)
+}
+
+/// Return from an exception, whatever the privilege.
+pub fn rte(block: &mut [u8], mem: &mut [u8]) -> Reply {
+    // SAFETY: as in `step`.
+    reply(unsafe { ffi::rte(block.as_mut_ptr(), block.len(), mem.as_mut_ptr(), mem.len()) } as u64)
+}
+
+/// Enter `vector` with `pc` in the frame; the interrupt mask stays.
+pub fn exception(block: &mut [u8], mem: &mut [u8], vector: u8, pc: u32) -> Reply {
+    // SAFETY: as in `step`.
+    reply(unsafe { ffi::exception(block.as_mut_ptr(), block.len(), mem.as_mut_ptr(), mem.len(), vector, pc) } as u64)
+}
+
+/// Enter `vector` with `pc` in the frame and the interrupt mask at `level`, 0 to 7.
+pub fn exception_at(block: &mut [u8], mem: &mut [u8], vector: u8, pc: u32, level: u8) -> Reply {
+    // SAFETY: as in `step`.
+    reply(
+        unsafe { ffi::exception_at(block.as_mut_ptr(), block.len(), mem.as_mut_ptr(), mem.len(), vector, pc, level) }
+            as u64,
+    )
+}
+
+/// Deliver an interrupt of `level`, 0 to 7, if the mask lets it in.
+pub fn interrupt(block: &mut [u8], mem: &mut [u8], vector: u8, level: u8) -> Reply {
+    // SAFETY: as in `step`.
+    reply(unsafe { ffi::interrupt(block.as_mut_ptr(), block.len(), mem.as_mut_ptr(), mem.len(), vector, level) } as u64)
+}

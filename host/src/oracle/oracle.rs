@@ -1,0 +1,189 @@
+//! What each call must answer: the original's `execute`, `exception`, `interrupt` and `rte`, with the
+//! paper's replies around them.
+
+use crate::bus::Bus;
+use crate::cpu::Cpu;
+use host::{Reply, State, MEMORY_LIMIT};
+
+pub struct Oracle {
+    cpu: Cpu,
+}
+
+impl Oracle {
+    pub fn new() -> Oracle {
+        Oracle { cpu: Cpu::new(Bus::new()) }
+    }
+
+    fn set(&mut self, s: &State) {
+        let c = &mut self.cpu;
+        c.d = s.d;
+        c.a = s.a;
+        c.pc = s.pc;
+        c.sr = s.sr;
+        c.other_sp = s.other;
+        c.vbr = s.vbr;
+        c.cacr = s.cacr;
+        c.macsr = s.macsr;
+        c.mask = s.mask;
+        c.accv = s.acc;
+        c.stopped = s.stopped;
+        c.op_pc = s.pc;
+        c.bus.outside = false;
+        c.last_fault = None;
+        c.fault_log.clear();
+    }
+
+    fn get(&self) -> State {
+        let c = &self.cpu;
+        State {
+            d: c.d,
+            a: c.a,
+            pc: c.pc,
+            sr: c.sr,
+            other: c.other_sp,
+            vbr: c.vbr,
+            cacr: c.cacr,
+            macsr: c.macsr,
+            mask: c.mask,
+            acc: c.accv,
+            stopped: c.stopped,
+        }
+    }
+
+    /// Replies 9, 8, 9, 1 and 2, in this order.
+    fn opened(block: &[u8], mem: &[u8]) -> Result<State, Reply> {
+        match State::from_block(block) {
+            Err(r) if r != Reply::NotAdmitted => Err(r),
+            _ if mem.len() > MEMORY_LIMIT => Err(Reply::MemoryTooLong),
+            other => other,
+        }
+    }
+
+    /// Do `f` on the original with this state and memory: the state after it, or, where an access was
+    /// not inside, reply 4 and the memory as it was.
+    fn perform(&mut self, s: &State, mem: &mut [u8], f: impl FnOnce(&mut Cpu)) -> Result<State, Reply> {
+        self.set(s);
+        let mut own = std::mem::take(&mut self.cpu.bus.mem);
+        own.clear();
+        own.extend_from_slice(mem);
+        self.cpu.bus.mem = own;
+        f(&mut self.cpu);
+        if self.cpu.bus.outside {
+            return Err(Reply::Outside);
+        }
+        mem.copy_from_slice(&self.cpu.bus.mem);
+        Ok(self.get())
+    }
+
+    /// The words that answer 5, and the order in which they come to it.
+    fn not_carried(s: &State, mem: &[u8]) -> bool {
+        let word = |at: u32| {
+            let at = at as usize;
+            mem.get(at..at + 2).map(|b| u16::from_be_bytes([b[0], b[1]]))
+        };
+        let Some(op) = word(s.pc) else { return false };
+        if op >> 12 == 8 || op == 0x4E7A || op == 0x4E7B {
+            return true;
+        }
+        if op & 0xF100 == 0xA000 {
+            let Some(ext) = word(s.pc.wrapping_add(2)) else { return false };
+            let line_a = op & 0x30 == 0x30;
+            return !line_a && ext & 0x0800 == 0;
+        }
+        false
+    }
+
+    fn one(&mut self, s: &State, mem: &mut [u8]) -> Result<(State, u8), Reply> {
+        if s.stopped {
+            return Err(Reply::Stopped);
+        }
+        if Self::not_carried(s, mem) {
+            return Err(Reply::NotCarried);
+        }
+        self.cpu.exc_counts = [0; 256];
+        let after = self.perform(s, mem, |c| c.execute())?;
+        let entered = self.cpu.exc_counts.iter().position(|&n| n != 0).unwrap_or(0);
+        Ok((after, entered as u8))
+    }
+
+    pub fn step(&mut self, block: &mut [u8], mem: &mut [u8]) -> (Reply, u64) {
+        match Self::opened(block, mem).and_then(|s| self.one(&s, mem)) {
+            Ok((s, vector)) => {
+                block.copy_from_slice(&s.to_block());
+                (Reply::Done, vector as u64)
+            }
+            Err(r) => (r, 0),
+        }
+    }
+
+    pub fn run(&mut self, block: &mut [u8], mem: &mut [u8], budget: u32) -> (Reply, u64) {
+        let mut s = match Self::opened(block, mem) {
+            Ok(s) => s,
+            Err(r) => return (r, 0),
+        };
+        let mut done = 0;
+        let mut answer = Reply::Done;
+        while done < budget {
+            match self.one(&s, mem) {
+                Ok((after, _)) => s = after,
+                Err(r) => {
+                    answer = r;
+                    break;
+                }
+            }
+            done += 1;
+        }
+        block.copy_from_slice(&s.to_block());
+        (answer, done as u64)
+    }
+
+    /// A call that is not a step: `f` on the original, or its refusal.
+    fn call(&mut self, block: &mut [u8], mem: &mut [u8], f: impl FnOnce(&mut Cpu) -> Option<Reply>) -> (Reply, u64) {
+        let mut refusal = None;
+        let before = match Self::opened(block, mem) {
+            Ok(s) => s,
+            Err(r) => return (r, 0),
+        };
+        let after = self.perform(&before, mem, |c| refusal = f(c));
+        match (refusal, after) {
+            (Some(r), _) | (None, Err(r)) => (r, 0),
+            (None, Ok(s)) => {
+                block.copy_from_slice(&s.to_block());
+                (Reply::Done, 0)
+            }
+        }
+    }
+
+    pub fn exception(&mut self, block: &mut [u8], mem: &mut [u8], vector: u8, pc: u32) -> (Reply, u64) {
+        self.call(block, mem, |c| {
+            c.exception(vector, pc, None);
+            None
+        })
+    }
+
+    pub fn exception_at(&mut self, block: &mut [u8], mem: &mut [u8], vector: u8, pc: u32, level: u8) -> (Reply, u64) {
+        self.call(block, mem, |c| {
+            if level > 7 {
+                return Some(Reply::BadNumber);
+            }
+            c.exception(vector, pc, Some(level));
+            None
+        })
+    }
+
+    pub fn interrupt(&mut self, block: &mut [u8], mem: &mut [u8], vector: u8, level: u8) -> (Reply, u64) {
+        self.call(block, mem, |c| {
+            if level > 7 {
+                return Some(Reply::BadNumber);
+            }
+            (!c.interrupt(vector, level)).then_some(Reply::Masked)
+        })
+    }
+
+    pub fn rte(&mut self, block: &mut [u8], mem: &mut [u8]) -> (Reply, u64) {
+        self.call(block, mem, |c| {
+            c.rte();
+            None
+        })
+    }
+}
