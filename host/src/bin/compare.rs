@@ -688,6 +688,11 @@ fn emac(c: &mut Compare, r: &mut Random) {
             s.acc = std::array::from_fn(|_| accumulator(r, macsr));
             if r.of_100(60) {
                 s.d = std::array::from_fn(|_| if r.of_100(50) { edge(r) } else { r.long() });
+            } else if r.of_100(50) {
+                // Products that lie halfway between two fractions.
+                for v in s.d.iter_mut().chain(&mut s.a[..2]) {
+                    *v = (r.long() | 1) << r.pick(&[0, 0, 22, 11]);
+                }
             }
             c.check("emac", Case::of(Call::Step, &s, mem));
         }
@@ -706,7 +711,11 @@ fn edges(c: &mut Compare, r: &mut Random) {
         }
         let supervisor = r.of_100(50);
         let (mut s, mut mem) = aimed(r, op, supervisor);
-        s.d = std::array::from_fn(|_| if r.of_100(70) { edge(r) } else { r.below(70) });
+        s.d = std::array::from_fn(|_| match r.below(8) {
+            0 => r.below(70),
+            1 | 2 => r.pick(&[30, 31, 32, 33, 34, 63, 64, 65, 95, 96]),
+            _ => edge(r),
+        });
         s.a = std::array::from_fn(|i| if i == 7 { s.a[7] } else { edge(r) });
         put(&mut mem, s.pc.wrapping_add(2), &[(r.word() & 0x7F) as u8 & 0x78, (r.word() & 7) as u8]);
         if r.of_100(40) {
