@@ -289,14 +289,19 @@ fn write_code(r: &mut Random, mem: &mut [u8], pc: u32, op: u16) {
     put(mem, pc, &op.to_be_bytes());
     let small = |r: &mut Random| r.below(LENGTH - 16) as u16;
     let near = |r: &mut Random| (r.below(256) as i32 - 128) as u16;
+    let index = |r: &mut Random| (r.below(8) << 12 | r.below(8) << 9 | r.below(256)) as u16;
     let mut words = [0u16; 6];
-    match r.below(8) {
+    match r.below(11) {
         // An absolute long in either place.
         0 | 1 => words = [0, small(r), 0, small(r), 0, small(r)],
         2 => words = [r.word(), 0, small(r), 0, small(r), 0],
         3 => words = std::array::from_fn(|_| small(r)),
         4 => words = std::array::from_fn(|_| near(r)),
         5 => words = [r.word(), small(r), near(r), near(r), small(r), 0],
+        // A displacement or an index before or after an absolute long.
+        7 => words = [near(r), 0, small(r), near(r), 0, small(r)],
+        8 => words = [index(r), 0, small(r), index(r), 0, small(r)],
+        9 => words = [0, small(r), index(r), index(r), near(r), near(r)],
         6 => {
             for w in &mut words {
                 *w = edge(r) as u16
