@@ -289,14 +289,19 @@ fn write_code(r: &mut Random, mem: &mut [u8], pc: u32, op: u16) {
     put(mem, pc, &op.to_be_bytes());
     let small = |r: &mut Random| r.below(LENGTH - 16) as u16;
     let near = |r: &mut Random| (r.below(256) as i32 - 128) as u16;
+    let index = |r: &mut Random| (r.below(8) << 12 | r.below(8) << 9 | r.below(256)) as u16;
     let mut words = [0u16; 6];
-    match r.below(8) {
+    match r.below(11) {
         // An absolute long in either place.
         0 | 1 => words = [0, small(r), 0, small(r), 0, small(r)],
         2 => words = [r.word(), 0, small(r), 0, small(r), 0],
         3 => words = std::array::from_fn(|_| small(r)),
         4 => words = std::array::from_fn(|_| near(r)),
         5 => words = [r.word(), small(r), near(r), near(r), small(r), 0],
+        // A displacement or an index before or after an absolute long.
+        7 => words = [near(r), 0, small(r), near(r), 0, small(r)],
+        8 => words = [index(r), 0, small(r), index(r), 0, small(r)],
+        9 => words = [0, small(r), index(r), index(r), near(r), near(r)],
         6 => {
             for w in &mut words {
                 *w = edge(r) as u16
@@ -688,6 +693,11 @@ fn emac(c: &mut Compare, r: &mut Random) {
             s.acc = std::array::from_fn(|_| accumulator(r, macsr));
             if r.of_100(60) {
                 s.d = std::array::from_fn(|_| if r.of_100(50) { edge(r) } else { r.long() });
+            } else if r.of_100(50) {
+                // Products that lie halfway between two fractions.
+                for v in s.d.iter_mut().chain(&mut s.a[..2]) {
+                    *v = (r.long() | 1) << r.pick(&[0, 0, 22, 11]);
+                }
             }
             c.check("emac", Case::of(Call::Step, &s, mem));
         }
@@ -706,7 +716,11 @@ fn edges(c: &mut Compare, r: &mut Random) {
         }
         let supervisor = r.of_100(50);
         let (mut s, mut mem) = aimed(r, op, supervisor);
-        s.d = std::array::from_fn(|_| if r.of_100(70) { edge(r) } else { r.below(70) });
+        s.d = std::array::from_fn(|_| match r.below(8) {
+            0 => r.below(70),
+            1 | 2 => r.pick(&[30, 31, 32, 33, 34, 63, 64, 65, 95, 96]),
+            _ => edge(r),
+        });
         s.a = std::array::from_fn(|i| if i == 7 { s.a[7] } else { edge(r) });
         put(&mut mem, s.pc.wrapping_add(2), &[(r.word() & 0x7F) as u8 & 0x78, (r.word() & 7) as u8]);
         if r.of_100(40) {
