@@ -3,8 +3,7 @@
 --   1  memory too long
 --   2  state not admitted
 --   3  state stopped (step; run with budget left)
---   4  an access this call makes is not inside (for a step: the fetch of its word, a read of the word's instruction, or what it leaves
---      to be done)
+--   4  an access this call makes is not inside (those of a step are listed in Accesses)
 --   5  line 8; 0x4E7A, 0x4E7B; EMAC word operand
 --   6  level above 7, or accumulator number above 3
 --   7  interrupt masked: level below 7 and at most the mask
@@ -25,20 +24,17 @@ use Rattle.manual.specs.declared.Cpu.{Cpu}
 use Rattle.manual.specs.declared.Emac.{Emac}
 use Rattle.manual.specs.declared.Level.{Level}
 use Rattle.manual.specs.declared.Level.the-variants.{Kept, To}
-use Rattle.manual.specs.declared.Size.{Size}
 use Rattle.manual.specs.declared.Size.the-variants.{Word, Long}
-use Rattle.manual.specs.declared.Fault.the-variants.{Outside as Out}
-use Rattle.manual.specs.declared.Got.the-variants.{Value, Fault}
-use Rattle.manual.specs.declared.Action.the-variants.{Store, StoreMany, LoadMany, Enter, Return, PushStatus}
 use Rattle.manual.specs.declared.Reply.{Reply}
 use Rattle.manual.specs.declared.Reply.the-variants.{Done, TooLong, NotAdmitted, Stopped, NotInside, OutOfRange, Masked, WrongVersion, WrongLength}
 use Rattle.manual.specs.declared.Answer.{Answer}
 use Rattle.manual.specs.declared.Told.{Told}
 use Rattle.manual.specs.declared.Popped.{Popped}
 use Rattle.manual.specs.declared.Change.{Change}
-use Rattle.manual.specs.Word.{bytes, plus, minus}
+use Rattle.manual.specs.Word.{plus, minus}
 use Rattle.manual.specs.Registers.{addressOf, withAddress, applied}
-use Rattle.manual.specs.Memory.{inside, valueAt, numberAt, stored, load, manyInside}
+use Rattle.manual.specs.Memory.{inside, valueAt, numberAt, stored}
+use Rattle.manual.specs.Change.{notCarried}
 use Rattle.manual.specs.Reply.{numberOf, Outcome, completed, unchanged, refusal}
 use Rattle.manual.specs.Admitted.{admitted, tooLong, checked}
 use Rattle.manual.specs.Differences.{vectorPlace}
@@ -48,14 +44,16 @@ use Rattle.manual.specs.EmacCalls.{accTold, doneWith, accChanged, accGetCall, a
 use Rattle.manual.specs.Block.{saysAdmitted, stateAt, notRead, readBlock, blockOf, Stored, storeBlock}
 use Rattle.manual.specs.Image.{imageMemory, imageState, imageReply}
 use Rattle.instructions.specs.Rows.{rowOf}
-use Rattle.instructions.specs.Perform.{statusPushed, perform}
+use Rattle.instructions.specs.Perform.{perform}
 use Rattle.instructions.specs.Step.{instruction, step}
 use Rattle.instructions.specs.Run.{RunOutcome, run}
 use Rattle.word.specs.TestLaws.{by-lt}
 use Rattle.memory.specs.MemoryLaws.{value-lt}
 use Rattle.demands.specs.Runs.{Ends, runs}
 use Rattle.demands.specs.Admits.{admits}
-use Rattle.demands.specs.BodyLaws.{Excused, instruction-fine, excused-refused, movec-read, movec-write, mac-fits, mac-row}
+use Rattle.demands.specs.Accesses.{Access, Outside, SomeOutside, reads, leaves, accesses}
+use Rattle.demands.specs.PartLaws.{missed, missed-some, missed-both, Made}
+use Rattle.demands.specs.BodyLaws.{Excused, instruction-made, excused-refused, movec-read, movec-write, mac-fits, mac-row}
 use Rattle.demands.specs.StepLaws.{doing, fetched, not-fetched, perform-refuse}
 use Rattle.demands.specs.ReplyLaws as laws
 
@@ -66,10 +64,6 @@ numbered o = numberOf (o .stepped .reply)
 -- neither reply 1 nor reply 2: memory is short enough, and the state is admitted
 abbrev pub Ready : Cpu → List ℕ → Type 0
 Ready s m = (length m ≤ 0x100_0000) × (admitted s ≡ true)
-
--- an access of n bytes at a is not inside
-abbrev pub Outside : List ℕ → ℕ → ℕ → Type 0
-Outside m a n = length m < a + n
 
 -- a word op at `at` that is not carried
 pub data NotCarriedWord (m : List ℕ) (at op : ℕ) : Type 0 where
@@ -127,28 +121,14 @@ pub record Reply4 : Type 0 where
   pub rte-4 : (s : Cpu) (m : List ℕ)
       → (numbered (rte s m) ≡ 4) ↔ (Ready s m × (Outside m (addressOf (s .r) 7) 4 ⊎ Outside m (plus (addressOf (s .r) 7) 4) 4))
   pub push32-4 : (s : Cpu) (m : List ℕ) (v : ℕ) → (numbered (push32 s m v) ≡ 4) ↔ (Ready s m × Outside m (minus (addressOf (s .r) 7) 4) 4)
-  -- a step: the fetch, or what the instruction and its action then come to
-  pub step-4 : (s : Cpu) (m : List ℕ)
-      → let c : Change = instruction (s .r) (s .pc) (s .sr) (s .other) (s .emac) m (numberAt m (s .pc) Word) in
-      (numbered (step s m) ≡ 4)
-      ↔ (Ready s m × ((s .stopped ≡ false) × (Outside m (s .pc) 2 ⊎ ((s .pc + 2 ≤ length m) × (numbered (perform s c m) ≡ 4)))))
-  -- an instruction's read
-  pub load-4 : (m : List ℕ) (a : ℕ) (z : Size) → (load m a z ≡ Fault Out) ↔ Outside m a (bytes z)
-  -- what an instruction leaves to be done, t being the registers after its own changes
-  pub store-4 : (s : Cpu) (c : Change) (m : List ℕ) (a : ℕ) (z : Size) (v : ℕ) → c .action ≡ Store a z v → (numbered (perform s c m) ≡ 4) ↔ Outside m a (bytes z)
-  pub store-many-4 : (s : Cpu) (c : Change) (m : List ℕ) (regs a : ℕ) → c .action ≡ StoreMany regs a → (numbered (perform s c m) ≡ 4) ↔ (manyInside 16 m regs a ≡ false)
-  pub load-many-4 : (s : Cpu) (c : Change) (m : List ℕ) (regs a : ℕ) → c .action ≡ LoadMany regs a → (numbered (perform s c m) ≡ 4) ↔ (manyInside 16 m regs a ≡ false)
-  pub enter-4 : (s : Cpu) (c : Change) (m : List ℕ) (vector pc : ℕ) → c .action ≡ Enter vector pc
-      → let t : Cpu = applied s c in
-      let sp : ℕ = addressOf (setSr (handling Kept (t .sr)) t .r) 7 in
-      (numbered (perform s c m) ≡ 4) ↔ (Outside m (pcPlace sp) 4 ⊎ (Outside m (framePlace sp) 4 ⊎ Outside m (vectorPlace (t .vbr) vector) 4))
-  pub return-4 : (s : Cpu) (c : Change) (m : List ℕ) → c .action ≡ Return
-      → let t : Cpu = applied s c in
-      (numbered (perform s c m) ≡ 4) ↔ (Outside m (addressOf (t .r) 7) 4 ⊎ Outside m (plus (addressOf (t .r) 7) 4) 4)
-  pub push-status-4 : (s : Cpu) (c : Change) (m : List ℕ) (v : ℕ) → c .action ≡ PushStatus v
-      → let t : Cpu = applied s c in
-      (numbered (perform s c m) ≡ 4) ↔ Outside m (minus (addressOf (t .r) 7) 4) 4
   pub pop32-4 : (s : Cpu) (m : List ℕ) → (numberOf (pop32 s m .reply) ≡ 4) ↔ (Ready s m × Outside m (addressOf (s .r) 7) 4)
+  -- a step: some access of the call is not inside
+  pub step-4 : (s : Cpu) (m : List ℕ) → (numbered (step s m) ≡ 4) ↔ (Ready s m × ((s .stopped ≡ false) × SomeOutside m (accesses s m)))
+  -- a run: with budget left, some access of the next step is not inside, in the state and memory after the steps that were done
+  pub run-4 : (budget : ℕ) (s : Cpu) (m : List ℕ)
+      → let r : RunOutcome = run budget s m in
+      (numberOf (r .ran .reply) ≡ 4)
+      ↔ (Ready s m × ((r .ran .count < budget) × ((r .ran .cpu .stopped ≡ false) × SomeOutside (r .memory) (accesses (r .ran .cpu) (r .memory)))))
 
 pub record Reply5 : Type 0 where
   pub step-5 : (s : Cpu) (m : List ℕ) → ((j : ℕ) → getD m j 0 < 256)
@@ -231,21 +211,58 @@ module _ (s : Cpu) (m : List ℕ) where
   abbrev op : ℕ
   op = numberAt m (s .pc) Word
 
-  acted-kind : ((numbered acted ≡ 0) ⊎ (numbered acted ≡ 4)) ⊎ ((numbered acted ≡ 5) × ((inside m (s .pc) 2 ≡ true) × Excused (s .pc) m op))
+  abbrev changing : Change
+  changing = instruction (s .r) (s .pc) (s .sr) (s .other) (s .emac) m op
+
+  -- 4 where an access is not inside, else 0; or 5, every access being inside
+  abbrev Kind : ℕ → Bool → Type 0
+  Kind n b = (n ≡ cond b 4 0) ⊎ ((n ≡ 5) × ((b ≡ false) × ((inside m (s .pc) 2 ≡ true) × Excused (s .pc) m op)))
+
+  -- once the word is fetched: its own reads, and what is then done
+  abbrev own : List Access
+  own = reads (s .r) (s .pc) m op (s .emac .mask)
+
+  abbrev done-then : List Access
+  done-then = leaves (applied s changing) (changing .action)
+
+  after-fetch : inside m (s .pc) 2 ≡ true → missed m (accesses s m) ≡ cond (missed m own) true (missed m done-then)
+  unfolding accesses
+  after-fetch i = rw i (missed-both m own done-then)
+
+  no-fetch : inside m (s .pc) 2 ≡ false → missed m (accesses s m) ≡ true
+  unfolding accesses
+  no-fetch i = rw i
+
+  changing-kind : inside m (s .pc) 2 ≡ true → Kind (numbered (perform s changing m)) (missed m (accesses s m))
+  changing-kind i = rw (after-fetch i) (⊎-elim refused made (instruction-made (s .r) (s .pc) (s .sr) (s .other) (s .emac) m op))
+    where
+      refused : Excused (s .pc) m op × ((changing ≡ notCarried) × (missed m own ≡ false)) → Kind (numbered (perform s changing m)) (cond (missed m own) true (missed m done-then))
+      refused h =
+          inr (
+            ap (λ (c : Change). numbered (perform s c m)) (h .1 .0) ∙ laws.perform-5 s m,
+            (ap (λ (x : Bool). cond x true (missed m done-then)) (h .1 .1) ∙ ap (λ (c : Change). missed m (leaves (applied s c) (c .action))) (h .1 .0) ∙ laws.left-by-5 s m, (i, h .0)),
+          )
+
+      both : (a b : Bool) (n : ℕ) → n ≡ cond a 4 0 → cond b 4 n ≡ cond (cond a true b) 4 0
+      both true true n e = refl
+      both true false n e = e
+      both false true n e = refl
+      both false false n e = e
+
+      made : Made m own changing → Kind (numbered (perform s changing m)) (cond (missed m own) true (missed m done-then))
+      made h = inl (laws.perform-number s changing m ∙ both (missed m own) (missed m done-then) _ h)
+
+  acted-kind : Kind (numbered acted) (missed m (accesses s m))
   unfolding numberOf refusal
   acted-kind = by (inside m (s .pc) 2) refl
     where
-      by : (b : Bool) → inside m (s .pc) 2 ≡ b → ((numbered acted ≡ 0) ⊎ (numbered acted ≡ 4)) ⊎ ((numbered acted ≡ 5) × ((inside m (s .pc) 2 ≡ true) × Excused (s .pc) m op))
-      by false i = inl (inr (rw (not-fetched (s .r) (s .pc) (s .sr) (s .other) (s .emac) m i, perform-refuse s NotInside m)))
-      by true i =
-          let e : doing s m ≡ instruction (s .r) (s .pc) (s .sr) (s .other) (s .emac) m op = fetched (s .r) (s .pc) (s .sr) (s .other) (s .emac) m op i refl in
-          ⊎-elim
-          (λ x. inr (ap (λ (c : Change). numbered (perform s c m)) (e ∙ x .1) ∙ laws.perform-5 s m, (i, x .0)))
-          (λ f. inl (rw e (laws.perform-only s _ m f)))
-          (instruction-fine (s .r) (s .pc) (s .sr) (s .other) (s .emac) m op)
+      by : (b : Bool) → inside m (s .pc) 2 ≡ b → Kind (numbered acted) (missed m (accesses s m))
+      by false i =
+          inl (ap (λ (c : Change). numbered (perform s c m)) (not-fetched (s .r) (s .pc) (s .sr) (s .other) (s .emac) m i) ∙ ap numbered (perform-refuse s NotInside m) ∙ rw (no-fetch i))
+      by true i = rw (fetched (s .r) (s .pc) (s .sr) (s .other) (s .emac) m op i refl) (changing-kind i)
 
   acted-never : (k : ℕ) → (0 ≡ k → ⊥) → (4 ≡ k → ⊥) → (5 ≡ k → ⊥) → numbered acted ≡ k → ⊥
-  acted-never k n0 n4 n5 e = ⊎-elim (⊎-elim (λ h. n0 (sym h ∙ e)) (λ h. n4 (sym h ∙ e))) (λ h. n5 (sym (h .0) ∙ e)) acted-kind
+  acted-never k n0 n4 n5 e = ⊎-elim (λ h. laws.neither (missed m (accesses s m)) 4 0 k n4 n0 (sym h ∙ e)) (λ h. n5 (sym (h .0) ∙ e)) acted-kind
 
   inner-number : numbered inner ≡ cond (s .stopped) 3 (numbered acted)
   unfolding numberOf refusal
@@ -277,8 +294,8 @@ module _ (s : Cpu) (m : List ℕ) where
 
       there : numbered acted ≡ 5 → (s .pc + 2 ≤ length m) × NotCarriedWord m (s .pc) op
       there e =
-          ⊎-elim (λ h. absurd (⊎-elim (λ x. omega (arith, sym x ∙ e)) (λ x. omega (arith, sym x ∙ e)) h))
-          (λ h. (laws.iff-le _ _ .0 (h .1 .0), kinds m (s .pc) op small .0 (h .1 .1)))
+          ⊎-elim (λ h. absurd (laws.neither (missed m (accesses s m)) 4 0 5 (λ x. omega arith) (λ x. omega arith) (sym h ∙ e)))
+          (λ h. (laws.iff-le _ _ .0 (h .1 .1 .0), kinds m (s .pc) op small .0 (h .1 .1 .1)))
           acted-kind
 
       back : (s .pc + 2 ≤ length m) × NotCarriedWord m (s .pc) op → numbered acted ≡ 5
@@ -296,27 +313,14 @@ module _ (s : Cpu) (m : List ℕ) where
       (laws.iff-and laws.iff-same
       (rw inner-number (laws.iff-trans (laws.later 5 (numbered acted) 3 (λ h. omega arith) (s .stopped)) (laws.iff-and laws.iff-same (acted-5 all)))))
 
-  acted-4 : let c : Change = instruction (s .r) (s .pc) (s .sr) (s .other) (s .emac) m op in
-      (numbered acted ≡ 4) ↔ (Outside m (s .pc) 2 ⊎ ((s .pc + 2 ≤ length m) × (numbered (perform s c m) ≡ 4)))
-  unfolding numberOf refusal
-  acted-4 = by (inside m (s .pc) 2) refl
+  acted-4 : (numbered acted ≡ 4) ↔ SomeOutside m (accesses s m)
+  acted-4 = laws.iff-trans (by (missed m (accesses s m)) acted-kind) (missed-some m (accesses s m))
     where
-      by : (b : Bool) → inside m (s .pc) 2 ≡ b
-          → let c : Change = instruction (s .r) (s .pc) (s .sr) (s .other) (s .emac) m op in
-          (numbered acted ≡ 4) ↔ (Outside m (s .pc) 2 ⊎ ((s .pc + 2 ≤ length m) × (numbered (perform s c m) ≡ 4)))
-      by false i = (
-        λ e. inl (laws.iff-not-le _ _ .0 i),
-        λ h. ap (λ (c : Change). numbered (perform s c m)) (not-fetched (s .r) (s .pc) (s .sr) (s .other) (s .emac) m i) ∙ ap numbered (perform-refuse s NotInside m),
-      )
-      by true i =
-          let l : s .pc + 2 ≤ length m = laws.iff-le _ _ .0 i in
-          let f : doing s m ≡ instruction (s .r) (s .pc) (s .sr) (s .other) (s .emac) m op = fetched (s .r) (s .pc) (s .sr) (s .other) (s .emac) m op i refl in (
-            λ e. inr (l, sym (ap (λ (c : Change). numbered (perform s c m)) f) ∙ e),
-            ⊎-elim (λ o. absurd (omega (arith, l, o))) (λ h. ap (λ (c : Change). numbered (perform s c m)) f ∙ h .1),
-          )
+      by : (b : Bool) → Kind (numbered acted) b → (numbered acted ≡ 4) ↔ (b ≡ true)
+      by b (inl h) = rw h (laws.here 4 0 (λ e. omega arith) b)
+      by b (inr h) = (λ e. absurd (omega (arith, sym (h .0) ∙ e)), λ e. absurd (false≢true (sym (h .1 .0) ∙ e)))
 
-  of-step-4 : let c : Change = instruction (s .r) (s .pc) (s .sr) (s .other) (s .emac) m op in
-      (numbered (step s m) ≡ 4) ↔ (Ready s m × ((s .stopped ≡ false) × (Outside m (s .pc) 2 ⊎ ((s .pc + 2 ≤ length m) × (numbered (perform s c m) ≡ 4)))))
+  of-step-4 : (numbered (step s m) ≡ 4) ↔ (Ready s m × ((s .stopped ≡ false) × SomeOutside m (accesses s m)))
   unfolding step
   of-step-4 =
       laws.iff-trans (laws.checked-on s m inner 4 (λ h. omega arith) (λ h. omega arith))
@@ -328,60 +332,17 @@ module _ (s : Cpu) (m : List ℕ) where
   step-number = by (tooLong m) (admitted s) (s .stopped)
     where
       small : numbered acted ≤ 5
-      small = ⊎-elim (⊎-elim (λ h. omega arith) (λ h. omega arith)) (λ h. omega (arith, h .0)) acted-kind
+      small = ⊎-elim (λ h. rw h (either (missed m (accesses s m)))) (λ h. omega (arith, h .0)) acted-kind
+        where
+          either : (b : Bool) → cond b 4 0 ≤ 5
+          either true = omega arith
+          either false = omega arith
 
       by : (a b c : Bool) → numbered (cond a (unchanged s TooLong m) (cond b (cond c (unchanged s Stopped m) acted) (unchanged s NotAdmitted m))) ≤ 5
       by true b c = few s TooLong m (omega arith)
       by false true true = few s Stopped m (omega arith)
       by false true false = small
       by false false c = few s NotAdmitted m (omega arith)
-
--- ---- an instruction's reads, and what it leaves to be done
-
-load-outside : (m : List ℕ) (a : ℕ) (z : Size) → (load m a z ≡ Fault Out) ↔ Outside m a (bytes z)
-unfolding load
-load-outside m a z = laws.iff-trans (by (inside m a (bytes z)) (numberAt m a z)) (laws.outside m a (bytes z))
-  where
-    by : (b : Bool) (v : ℕ) → (cond b (Value v) (Fault Out) ≡ Fault Out) ↔ (b ≡ false)
-    by true v = (λ e. absurd (differ v e), λ h. absurd (false≢true (sym h)))
-      where
-        differ : (v : ℕ) → Value v ≡ Fault Out → ⊥
-        differ v e = let z : _≡_ {A = ℕ} 0 1 = cc in omega arith
-    by false v = (λ e. refl, λ h. refl)
-
-module _ (s : Cpu) (c : Change) (m : List ℕ) where
-  of-store-4 : (a : ℕ) (z : Size) (v : ℕ) → c .action ≡ Store a z v → (numbered (perform s c m) ≡ 4) ↔ Outside m a (bytes z)
-  unfolding perform applied
-  of-store-4 a z v e = rw e (laws.iff-trans (laws.one-4 s s m (inside m a (bytes z)) _ _) (laws.outside m a (bytes z)))
-
-  of-store-many-4 : (regs a : ℕ) → c .action ≡ StoreMany regs a → (numbered (perform s c m) ≡ 4) ↔ (manyInside 16 m regs a ≡ false)
-  unfolding perform applied
-  of-store-many-4 regs a e = rw e (laws.one-4 s s m (manyInside 16 m regs a) _ _)
-
-  of-load-many-4 : (regs a : ℕ) → c .action ≡ LoadMany regs a → (numbered (perform s c m) ≡ 4) ↔ (manyInside 16 m regs a ≡ false)
-  unfolding perform applied
-  of-load-many-4 regs a e = rw e (laws.one-4 s s m (manyInside 16 m regs a) _ _)
-
-  of-enter-4 : (vector pc : ℕ) → c .action ≡ Enter vector pc
-      → let t : Cpu = applied s c in
-      let sp : ℕ = addressOf (setSr (handling Kept (t .sr)) t .r) 7 in
-      (numbered (perform s c m) ≡ 4) ↔ (Outside m (pcPlace sp) 4 ⊎ (Outside m (framePlace sp) 4 ⊎ Outside m (vectorPlace (t .vbr) vector) 4))
-  unfolding perform applied
-  of-enter-4 vector pc e = rw e (laws.entered-4 s (applied s c) Kept vector pc m)
-
-  of-return-4 : c .action ≡ Return
-      → let t : Cpu = applied s c in
-      (numbered (perform s c m) ≡ 4) ↔ (Outside m (addressOf (t .r) 7) 4 ⊎ Outside m (plus (addressOf (t .r) 7) 4) 4)
-  unfolding perform applied
-  of-return-4 e = rw e (laws.left-4 s (applied s c) m)
-
-  of-push-status-4 : (v : ℕ) → c .action ≡ PushStatus v
-      → let t : Cpu = applied s c in
-      (numbered (perform s c m) ≡ 4) ↔ Outside m (minus (addressOf (t .r) 7) 4) 4
-  unfolding perform statusPushed applied addressOf minus
-  of-push-status-4 v e =
-      let a : ℕ = minus (addressOf (applied s c .r) 7) 4 in
-      rw e (laws.iff-trans (laws.one-4 s s m (inside m a 4) _ _) (laws.outside m a 4))
 
 -- ---- a run
 
@@ -436,29 +397,33 @@ module _ (budget : ℕ) (s : Cpu) (m : List ℕ) where
       clash : number ≡ 1 → number ≡ 2 → ⊥
       clash a b = omega arith
 
-  of-run-3 : (number ≡ 3) ↔ (Ready s m × ((ran .ran .count < budget) × (ran .ran .cpu .stopped ≡ true)))
+  -- any other refusal is that of the step where it leaves off
+  of-run-step : (k : ℕ) → (0 ≡ k → ⊥) → (1 ≡ k → ⊥) → (2 ≡ k → ⊥) → {X : Type 0}
+      → (numbered (step (ran .ran .cpu) (ran .memory)) ≡ k) ↔ (Ready (ran .ran .cpu) (ran .memory) × X)
+      → (number ≡ k) ↔ (Ready s m × ((ran .ran .count < budget) × X))
   unfolding numberOf
-  of-run-3 = (there, back)
+  of-run-step k n0 n1 n2 {X} at-step = (there, back)
     where
       at-end : Ready s m → Ends budget ran
       at-end h = runs .ends budget s m (laws.iff-not-lt 0x100_0000 (length m) .1 (h .0)) (h .1)
 
-      clash : (n : ℕ) → number ≡ n → number ≡ 3 → (n ≡ 3 → ⊥) → ⊥
-      clash n a b f = f (sym a ∙ b)
-
-      there : number ≡ 3 → Ready s m × ((ran .ran .count < budget) × (ran .ran .cpu .stopped ≡ true))
+      there : number ≡ k → Ready s m × ((ran .ran .count < budget) × X)
       there e =
-          which (λ h. absurd (clash 1 (given-1 h) e (λ x. omega arith))) (λ h k. absurd (clash 2 (given-2 h k) e (λ x. omega arith)))
-          (λ h. ⊎-elim
-          (λ d. absurd (clash 0 (ap numberOf (d .0)) e (λ x. omega arith)))
-          (λ d. (h, (d .0, of-step-3 (ran .ran .cpu) (ran .memory) .0 (ap numberOf (d .1 .1) ∙ e) .1)))
-          (at-end h))
+          which (λ h. absurd (n1 (sym (given-1 h) ∙ e))) (λ h j. absurd (n2 (sym (given-2 h j) ∙ e)))
+          (λ h. ⊎-elim (λ d. absurd (n0 (sym (ap numberOf (d .0)) ∙ e))) (λ d. (h, (d .0, at-step .0 (ap numberOf (d .1 .1) ∙ e) .1))) (at-end h))
 
-      back : Ready s m × ((ran .ran .count < budget) × (ran .ran .cpu .stopped ≡ true)) → number ≡ 3
+      back : Ready s m × ((ran .ran .count < budget) × X) → number ≡ k
       back h =
           ⊎-elim (λ d. absurd (omega (arith, d .1, h .1 .0)))
-          (λ d. sym (ap numberOf (d .1 .1)) ∙ of-step-3 (ran .ran .cpu) (ran .memory) .1 (ready-after (h .0), h .1 .1))
+          (λ d. sym (ap numberOf (d .1 .1)) ∙ at-step .1 (ready-after (h .0), h .1 .1))
           (at-end (h .0))
+
+  of-run-3 : (number ≡ 3) ↔ (Ready s m × ((ran .ran .count < budget) × (ran .ran .cpu .stopped ≡ true)))
+  of-run-3 = of-run-step 3 (λ h. omega arith) (λ h. omega arith) (λ h. omega arith) (of-step-3 (ran .ran .cpu) (ran .memory))
+
+  of-run-4 : (number ≡ 4)
+      ↔ (Ready s m × ((ran .ran .count < budget) × ((ran .ran .cpu .stopped ≡ false) × SomeOutside (ran .memory) (accesses (ran .ran .cpu) (ran .memory)))))
+  of-run-4 = of-run-step 4 (λ h. omega arith) (λ h. omega arith) (λ h. omega arith) (of-step-4 (ran .ran .cpu) (ran .memory))
 
 -- ---- entries and returns
 
@@ -893,7 +858,7 @@ pub reply-3 : Reply3
 reply-3 = record { step-3 = of-step-3; run-3 = of-run-3 }
 
 pub reply-4 : Reply4
-reply-4 = record { step-4 = of-step-4; load-4 = load-outside; store-4 = of-store-4; store-many-4 = of-store-many-4; load-many-4 = of-load-many-4; enter-4 = of-enter-4; return-4 = of-return-4; push-status-4 = of-push-status-4; exception-4 = of-exception-4; interrupt-4 = of-interrupt-4; rte-4 = of-rte-4; push32-4 = of-push-4; pop32-4 = of-pop-4 }
+reply-4 = record { step-4 = of-step-4; run-4 = of-run-4; exception-4 = of-exception-4; interrupt-4 = of-interrupt-4; rte-4 = of-rte-4; push32-4 = of-push-4; pop32-4 = of-pop-4 }
 
 pub reply-5 : Reply5
 reply-5 = record { step-5 = of-step-5 }

@@ -5,6 +5,8 @@ pub mod ValueLaws
 pub mod Nesting
 pub mod Refusals
 pub mod Runs
+pub mod Accesses
+pub mod PartLaws
 pub mod BodyLaws
 pub mod ReplyLaws
 pub mod Exact

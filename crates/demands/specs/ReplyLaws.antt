@@ -1,8 +1,8 @@
 -- Replies by their numbers: what number a tree of tests gives, and when. Assumes nothing.
-use Prim.Native.Nat.{ℕ, _+_, _≤_, _<_}
+use Prim.Native.Nat.{ℕ, zero, suc, _+_, _/_, _%_, _≤_, _<_}
 use mathlib.Core.Path.{_≡_, refl, sym, ap, _∙_}
 use mathlib.Core.Bool.{Bool, true, false, cond, _&&_, false≢true}
-use mathlib.Core.List.{List}
+use mathlib.Core.List.{List, _∷_}
 use mathlib.Core.Logic.{_↔_, _⊎_, ⊎-elim, inl, inr}
 use native.Mathlib.Omega.{arith}
 use lib.Dec.{eqb, ltb, leb}
@@ -25,7 +25,8 @@ use Rattle.manual.specs.Differences.{vectorPlace}
 use Rattle.manual.specs.Change.{notCarried, refuse}
 use Rattle.manual.specs.Exceptions.{setSr, handling, pcPlace, framePlace, framed, handlerState, entered, left}
 use Rattle.instructions.specs.Perform.{statusPushed, act, perform}
-use Rattle.demands.specs.BodyLaws.{fine, Fine}
+use Rattle.demands.specs.Accesses.{access, Outside, entryAt, returnAt, manyLongs, leaves}
+use Rattle.demands.specs.PartLaws.{refusing, missed}
 
 abbrev pub numbered : Outcome → ℕ
 numbered o = numberOf (o .stepped .reply)
@@ -128,9 +129,6 @@ module _ (s : Cpu) (m : List ℕ) (o : Outcome) where
 
 -- ---- what an entry, a return and an instruction's action answer: 0, or 4 where an access is not inside
 
-abbrev pub Outside : List ℕ → ℕ → ℕ → Type 0
-Outside m a n = length m < a + n
-
 pub outside : (m : List ℕ) (a n : ℕ) → (inside m a n ≡ false) ↔ Outside m a n
 outside m a n = iff-not-le (a + n) (length m)
 
@@ -148,6 +146,12 @@ three-only true true true = inl refl
 three-only true true false = inr refl
 three-only true false c = inr refl
 three-only false b c = inr refl
+
+three-missed : (a b c : Bool) → three a b c ≡ cond (cond a (cond b (cond c false true) true) true) 4 0
+three-missed true true true = refl
+three-missed true true false = refl
+three-missed true false c = refl
+three-missed false b c = refl
 
 module _ (given s : Cpu) (level : Level) (vector pc : ℕ) (m : List ℕ) where
   -- A7 with the handler's status register
@@ -175,6 +179,9 @@ module _ (given s : Cpu) (level : Level) (vector pc : ℕ) (m : List ℕ) where
       (iff-trans (three-4 (inside m (pcPlace pointer) 4) (inside m (framePlace pointer) 4) (inside m (vectorPlace (s .vbr) vector) 4))
       (iff-or (outside m (pcPlace pointer) 4) (iff-or (outside m (framePlace pointer) 4) (outside m (vectorPlace (s .vbr) vector) 4))))
 
+  pub entered-missed : numbered (entered given s level vector pc m) ≡ cond (missed m (entryAt s level vector)) 4 0
+  entered-missed = entered-number ∙ three-missed (inside m (pcPlace pointer) 4) (inside m (framePlace pointer) 4) (inside m (vectorPlace (s .vbr) vector) 4)
+
   pub entered-only : (numbered (entered given s level vector pc m) ≡ 0) ⊎ (numbered (entered given s level vector pc m) ≡ 4)
   entered-only = rw entered-number (three-only (inside m (pcPlace pointer) 4) (inside m (framePlace pointer) 4) (inside m (vectorPlace (s .vbr) vector) 4))
 
@@ -194,6 +201,9 @@ module _ (given s : Cpu) (m : List ℕ) where
       (iff-trans (three-4 (inside m (addressOf (s .r) 7) 4) (inside m (plus (addressOf (s .r) 7) 4) 4) true)
       (iff-or (outside m (addressOf (s .r) 7) 4) (iff-trans (⊎-elim (λ h. h) (λ h. absurd (false≢true (sym h))), λ h. inl h) (outside m (plus (addressOf (s .r) 7) 4) 4))))
 
+  left-missed : numbered (left given s m) ≡ cond (missed m (returnAt s)) 4 0
+  left-missed = left-number ∙ three-missed (inside m (addressOf (s .r) 7) 4) (inside m (plus (addressOf (s .r) 7) 4) 4) true
+
   pub left-only : (numbered (left given s m) ≡ 0) ⊎ (numbered (left given s m) ≡ 4)
   left-only = rw left-number (three-only (inside m (addressOf (s .r) 7) 4) (inside m (plus (addressOf (s .r) 7) 4) 4) true)
 
@@ -212,32 +222,70 @@ module _ (given s : Cpu) (m : List ℕ) where
   one-only true t m′ = inl refl
   one-only false t m′ = inr refl
 
-  pub act-only : (a : Action) → fine a ≡ true → (numbered (act given s a m) ≡ 0) ⊎ (numbered (act given s a m) ≡ 4)
-  unfolding numberOf refusal statusPushed
-  act-only Nothing f = inl refl
-  act-only (Store a z v) f = one-only (inside m a (bytes z)) _ _
-  act-only (StoreMany mask a) f = one-only (manyInside 16 m mask a) _ _
-  act-only (LoadMany mask a) f = one-only (manyInside 16 m mask a) _ _
-  act-only (Enter vector pc) f = entered-only given s _ vector pc m
-  act-only Return f = left-only
-  act-only (Status v) f = inl refl
-  act-only (Stop v) f = inl refl
-  act-only (PushStatus v) f = one-only (inside m (minus (addressOf (s .r) 7) 4) 4) _ _
-  act-only Halt f = inl refl
-  act-only (Other v) f = inl refl
-  act-only (Accumulate i scale sub x y) f = inl refl
-  act-only (SetAcc i v) f = inl refl
-  act-only (SetExt i v) f = inl refl
-  act-only (SetMacsr v) f = inl refl
-  act-only (SetMask v) f = inl refl
-  act-only (CopyAcc from to) f = inl refl
-  act-only (ClearAcc i) f = inl refl
-  act-only (Refuse n) f = inr (eqb-true _ _ f)
+  -- and it is the one that is missed
+  one-missed : (b : Bool) (t : Cpu) (m′ : List ℕ) → numbered (cond b (completed t 0 m′) (unchanged given NotInside m)) ≡ cond (cond b false true) 4 0
+  one-missed b t m′ = one-number b t m′ ∙ by b
+    where
+      by : (b : Bool) → cond {A = ℕ} b 0 4 ≡ cond (cond b false true) 4 0
+      by true = refl
+      by false = refl
 
-pub perform-only : (s : Cpu) (c : Change) (m : List ℕ) → Fine c → (numbered (perform s c m) ≡ 0) ⊎ (numbered (perform s c m) ≡ 4)
+  all-missed : (b c : Bool) → b ≡ cond c false true → (t : Cpu) (m′ : List ℕ) → numbered (cond b (completed t 0 m′) (unchanged given NotInside m)) ≡ cond c 4 0
+  all-missed b c e t m′ = rw e (one-number (cond c false true) t m′ ∙ by c)
+    where
+      by : (c : Bool) → cond {A = ℕ} (cond c false true) 0 4 ≡ cond c 4 0
+      by true = refl
+      by false = refl
+
+  many-missed : (n regs a : ℕ) → manyInside n m regs a ≡ cond (missed m (manyLongs n regs a)) false true
+  unfolding manyInside
+  many-missed zero regs a = refl
+  many-missed (suc n) regs a = by (eqb (regs % 2) 1) (many-missed n (regs / 2) (plus a 4)) (many-missed n (regs / 2) a)
+    where
+      one : (i : Bool) → manyInside n m (regs / 2) (plus a 4) ≡ cond (missed m (manyLongs n (regs / 2) (plus a 4))) false true
+          → cond i (manyInside n m (regs / 2) (plus a 4)) false ≡ cond (cond i (missed m (manyLongs n (regs / 2) (plus a 4))) true) false true
+      one true p = p
+      one false p = refl
+
+      by : (b : Bool) → manyInside n m (regs / 2) (plus a 4) ≡ cond (missed m (manyLongs n (regs / 2) (plus a 4))) false true
+          → manyInside n m (regs / 2) a ≡ cond (missed m (manyLongs n (regs / 2) a)) false true
+          → cond b (cond (inside m a 4) (manyInside n m (regs / 2) (plus a 4)) false) (manyInside n m (regs / 2) a)
+          ≡ cond (missed m (cond b (access a 4 ∷ manyLongs n (regs / 2) (plus a 4)) (manyLongs n (regs / 2) a))) false true
+      by true p q = one (inside m a 4) p
+      by false p q = q
+
+  -- what an action answers: 4 where one of its accesses is not inside, else its own refusal, if it is one
+  act-number : (a : Action) → numbered (act given s a m) ≡ cond (missed m (leaves s a)) 4 (refusing a)
+  unfolding numberOf refusal statusPushed
+  act-number Nothing = refl
+  act-number (Store a z v) = one-missed (inside m a (bytes z)) _ _
+  act-number (StoreMany regs a) = all-missed _ (missed m (manyLongs 16 regs a)) (many-missed 16 regs a) _ _
+  act-number (LoadMany regs a) = all-missed _ (missed m (manyLongs 16 regs a)) (many-missed 16 regs a) _ _
+  act-number (Enter vector pc) = entered-missed given s _ vector pc m
+  act-number Return = left-missed
+  act-number (Status v) = refl
+  act-number (Stop v) = refl
+  act-number (PushStatus v) = one-missed (inside m (minus (addressOf (s .r) 7) 4) 4) _ _
+  act-number Halt = refl
+  act-number (Other v) = refl
+  act-number (Accumulate i scale sub x y) = refl
+  act-number (SetAcc i v) = refl
+  act-number (SetExt i v) = refl
+  act-number (SetMacsr v) = refl
+  act-number (SetMask v) = refl
+  act-number (CopyAcc from to) = refl
+  act-number (ClearAcc i) = refl
+  act-number (Refuse n) = refl
+
+pub perform-number : (s : Cpu) (c : Change) (m : List ℕ) → numbered (perform s c m) ≡ cond (missed m (leaves (applied s c) (c .action))) 4 (refusing (c .action))
 unfolding perform
-perform-only s c m f = act-only s (applied s c) m (c .action) f
+perform-number s c m = act-number s (applied s c) m (c .action)
 
 pub perform-5 : (s : Cpu) (m : List ℕ) → numbered (perform s notCarried m) ≡ 5
 unfolding perform notCarried refuse numberOf refusal
 perform-5 s m = refl
+
+-- and that leaves no access
+pub left-by-5 : (s : Cpu) (m : List ℕ) → missed m (leaves (applied s notCarried) (notCarried .action)) ≡ false
+unfolding notCarried refuse
+left-by-5 s m = refl

@@ -1,0 +1,364 @@
+-- The accesses that a step makes: each an address and a number of bytes. Document: "an access of n bytes at a is inside exactly when
+-- a + n, as whole numbers, is at most the length", and reply 4, "an access this call makes is not inside".
+--
+-- A step fetches its opcode word, makes the reads of the word's row, and then the accesses of what the instruction leaves to be done.
+-- The reads stand in tables, line by line and row by row in the order of the rows. Where a read's address hangs on a word that was read
+-- before it, that word is taken from memory as it stands. Assumes nothing.
+use Prim.Native.Nat.{ℕ, zero, suc, _+_, _/_, _%_, _<_}
+use mathlib.Core.Bool.{cond}
+use mathlib.Core.List.{List, [], _∷_, _++_}
+use lib.Dec.{eqb, ltb}
+use lib.ListN.{length, getD}
+use Rattle.manual.specs.declared.Cpu.{Cpu}
+use Rattle.manual.specs.declared.Size.{Size}
+use Rattle.manual.specs.declared.Size.the-variants.{Byte, Word, Long}
+use Rattle.manual.specs.declared.Operand.{Operand}
+use Rattle.manual.specs.declared.Operand.the-variants.{Immediate}
+use Rattle.manual.specs.declared.Place.{Place}
+use Rattle.manual.specs.declared.Place.the-variants.{D, A, M, I, Fault as NoPlace}
+use Rattle.manual.specs.declared.Reached.{Reached}
+use Rattle.manual.specs.declared.Reached.the-variants.{At, NoAddress}
+use Rattle.manual.specs.declared.Level.{Level}
+use Rattle.manual.specs.declared.Level.the-variants.{Kept}
+use Rattle.manual.specs.declared.Action.{Action}
+use Rattle.manual.specs.declared.Action.the-variants.{Nothing, Store, StoreMany, LoadMany, Enter, Return, Status, Stop, PushStatus, Halt, Other, Accumulate, SetAcc, SetExt, SetMacsr, SetMask, CopyAcc, ClearAcc, Refuse}
+use Rattle.manual.specs.declared.Change.{Change}
+use Rattle.manual.specs.Word.{bytes, plus, minus, sizeOf, signExtended}
+use Rattle.manual.specs.Registers.{addressOf, applied}
+use Rattle.manual.specs.Memory.{numberAt}
+use Rattle.manual.specs.Address.{operand, extension, locate, control}
+use Rattle.manual.specs.Differences.{anySize, vectorPlace}
+use Rattle.manual.specs.Exceptions.{setSr, handling, pcPlace, framePlace}
+use Rattle.instructions.specs.Rows.{rowOf, placeIn}
+use Rattle.instructions.specs.Line6.{displacementBytes}
+use Rattle.instructions.specs.LineA.{loadAddress}
+use Rattle.instructions.specs.Step.{instruction}
+
+pub record Access : Type 0 where
+  pub address : ℕ
+  pub count : ℕ
+
+abbrev pub access : ℕ → ℕ → Access
+access a n = record { address = a; count = n }
+
+-- an access of n bytes at a is not inside
+abbrev pub Outside : List ℕ → ℕ → ℕ → Type 0
+Outside m a n = length m < a + n
+
+-- some access of a list is not inside
+pub data SomeOutside (m : List ℕ) : List Access → Type 0 where
+  this : {x : Access} {l : List Access} → Outside m (x .address) (x .count) → SomeOutside m (x ∷ l)
+  later : {x : Access} {l : List Access} → SomeOutside m l → SomeOutside m (x ∷ l)
+
+-- ---- the parts
+
+abbrev pub none : List Access
+none = []
+
+abbrev pub wordAt : ℕ → List Access
+wordAt a = access a 2 ∷ []
+
+abbrev pub longAt : ℕ → List Access
+longAt a = access a 4 ∷ []
+
+-- n bytes of the instruction after its opcode word, at pc: one access, and none where n is 0
+abbrev pub words : ℕ → ℕ → List Access
+words pc n = cond (eqb n 0) none (access pc n ∷ [])
+
+-- the operand that bits 5 to 0 of a word name
+abbrev pub named : ℕ → Operand
+named op = operand (op / 8 % 8) (op % 8)
+
+-- the bytes of a place: those at its address, where it is in memory
+abbrev pub own : Place → Size → List Access
+own (D r) z = none
+own (A r) z = none
+own (M a) z = access a (bytes z) ∷ []
+own (I v) z = none
+own (NoPlace x) z = none
+
+-- the extension words of the operand that a word names, which lie at pc, and no more
+abbrev pub extensionOf : ℕ → ℕ → Size → List Access
+extensionOf pc op z = words pc (extension (named op) z)
+
+-- and then the operand itself
+abbrev pub operandAt : List ℕ → List ℕ → ℕ → ℕ → Size → List Access
+operandAt g m pc op z = extensionOf pc op z ++ own (locate g m pc (named op) z) z
+
+-- the extension words of a control mode; a mode that has no address has none
+abbrev pub reachedBy : Reached → List Access → List Access
+reachedBy (At got) l = l
+reachedBy NoAddress l = none
+
+abbrev pub controlAt : List ℕ → List ℕ → ℕ → ℕ → List Access
+controlAt g m pc op = reachedBy (control g m pc (named op)) (extensionOf pc op Long)
+
+-- ---- the reads of a word op at `at`, by its row
+
+module _ (g : List ℕ) (at : ℕ) (m : List ℕ) (op : ℕ) where
+  -- the operand that the word names, with its extension words right after the word
+  abbrev pub source : Size → List Access
+  source z = operandAt g m (plus at 2) op z
+
+  unfoldable pub reads0 : ℕ → List Access
+  reads0 row =
+      getD
+      (none ∷  -- 0 BITREV
+      none ∷  -- 1 BYTEREV
+      none ∷  -- 2 FF1
+      longAt (plus at 2) ∷  -- 3 ORI
+      longAt (plus at 2) ∷  -- 4 ANDI
+      longAt (plus at 2) ∷  -- 5 SUBI
+      longAt (plus at 2) ∷  -- 6 ADDI
+      longAt (plus at 2) ∷  -- 7 EORI
+      words (plus at 2) (extension Immediate Byte) ∷  -- 8 CMPI_B
+      words (plus at 2) (extension Immediate Word) ∷  -- 9 CMPI_W
+      words (plus at 2) (extension Immediate Long) ∷  -- 10 CMPI_L
+      (wordAt (plus at 2) ++ operandAt g m (plus at 4) op Byte) ∷  -- 11 BITOP_IMM
+      source Byte ∷  -- 12 BITOP_DN
+      [])
+      (placeIn 0 row) none  -- 13 ILL_0
+
+  -- MOVE: the source, and the extension words of the destination, which lie after the source's
+  abbrev pub moveReads : Size → List Access
+  moveReads z =
+      source z ++ words (plus (plus at 2) (extension (named op) z)) (extension (operand (op / 64 % 8) (op / 512 % 8)) z)
+
+  unfoldable pub reads1 : ℕ → List Access
+  reads1 row = getD (source Byte ∷ []) (placeIn 14 row) (moveReads Byte)  -- 14 MOVEA_B, 15 MOVE_B
+
+  unfoldable pub reads2 : ℕ → List Access
+  reads2 row = getD (source Long ∷ []) (placeIn 16 row) (moveReads Long)  -- 16 MOVEA_L, 17 MOVE_L
+
+  unfoldable pub reads3 : ℕ → List Access
+  reads3 row = getD (source Word ∷ []) (placeIn 18 row) (moveReads Word)  -- 18 MOVEA_W, 19 MOVE_W
+
+  -- STLDSR: the new status register, where the second word is 0x46FC
+  abbrev pub statusReads : List Access
+  statusReads = wordAt (plus at 2) ++ cond (eqb (numberAt m (plus at 2) Word) 0x46FC) (wordAt (plus at 4)) none
+
+  -- MOVEM: the registers' word, and the displacement in mode 5
+  abbrev pub manyReads : List Access
+  manyReads = wordAt (plus at 2) ++ cond (eqb (op / 8 % 8) 5) (wordAt (plus at 4)) none
+
+  unfoldable pub reads4 : ℕ → List Access
+  reads4 row =
+      getD
+      (none ∷  -- 20 NOP
+      wordAt (plus at 2) ∷  -- 21 STOP
+      none ∷  -- 22 RTE
+      longAt (addressOf g 7) ∷  -- 23 RTS
+      none ∷  -- 24 MOVEC_READ
+      none ∷  -- 25 MOVEC_WRITE
+      none ∷  -- 26 HALT
+      none ∷  -- 27 PULSE
+      none ∷  -- 28 ILLEGAL
+      statusReads ∷  -- 29 STLDSR
+      none ∷  -- 30 EXTB
+      wordAt (plus at 2) ∷  -- 31 LINK
+      longAt (addressOf g op) ∷  -- 32 UNLK
+      none ∷  -- 33 TO_USP
+      none ∷  -- 34 FROM_USP
+      none ∷  -- 35 FROM_CCR
+      none ∷  -- 36 SWAP
+      none ∷  -- 37 EXT_W
+      none ∷  -- 38 EXT_L
+      none ∷  -- 39 SATS
+      none ∷  -- 40 NEGX
+      none ∷  -- 41 NEG
+      none ∷  -- 42 NOT
+      none ∷  -- 43 TRAP
+      controlAt g m (plus at 2) op ∷  -- 44 JSR
+      controlAt g m (plus at 2) op ∷  -- 45 JMP
+      none ∷  -- 46 FROM_SR
+      none ∷  -- 47 ILL_42C0
+      source Word ∷  -- 48 TO_CCR
+      source Word ∷  -- 49 TO_SR
+      controlAt g m (plus at 2) op ∷  -- 50 PEA
+      manyReads ∷  -- 51 MOVEM_STORE
+      manyReads ∷  -- 52 MOVEM_LOAD
+      (wordAt (plus at 2) ++ operandAt g m (plus at 4) op Long) ∷  -- 53 MUL_L
+      (wordAt (plus at 2) ++ operandAt g m (plus at 4) op Long) ∷  -- 54 DIV_L
+      source Byte ∷  -- 55 TAS
+      extensionOf (plus at 2) op (sizeOf (op / 64)) ∷  -- 56 CLR
+      source (sizeOf (op / 64)) ∷  -- 57 TST
+      controlAt g m (plus at 2) op ∷  -- 58 LEA
+      [])
+      (placeIn 20 row) none  -- 59 ILL_4
+
+  unfoldable pub reads5 : ℕ → List Access
+  reads5 row =
+      getD
+      (none ∷  -- 60 TPF_W
+      none ∷  -- 61 TPF_L
+      none ∷  -- 62 TPF
+      none ∷  -- 63 ADDQ_AN_B
+      none ∷  -- 64 ADDQ_AN_W
+      none ∷  -- 65 ADDQ_AN_L
+      none ∷  -- 66 SCC
+      none ∷  -- 67 ILL_50C0
+      [])
+      (placeIn 60 row) (source (anySize op))  -- 68 ADDQ
+
+  -- a branch: the displacement, where it is not in the word
+  unfoldable pub reads6 : ℕ → List Access
+  reads6 row =
+      getD
+      (words (plus at 2) (displacementBytes (op % 256)) ∷  -- 69 BRA
+      words (plus at 2) (displacementBytes (op % 256)) ∷  -- 70 BSR
+      [])
+      (placeIn 69 row) (words (plus at 2) (displacementBytes (op % 256)))  -- 71 BCC
+
+  unfoldable pub reads7 : ℕ → List Access
+  reads7 row =
+      getD
+      (source (sizeOf (op / 64 % 2)) ∷  -- 72 MVS
+      source (sizeOf (op / 64 % 2)) ∷  -- 73 MVZ
+      [])
+      (placeIn 72 row) none  -- 74 MOVEQ
+
+  -- lines 9 and D, from their first row on
+  unfoldable pub reads9D : ℕ → ℕ → List Access
+  reads9D first row =
+      getD
+      (none ∷  -- 76 SUBX_B, 107 ADDX_B
+      none ∷  -- 77 SUBX_W, 108 ADDX_W
+      none ∷  -- 78 SUBX_L, 109 ADDX_L
+      none ∷  -- 79 SUB_ILL_B, 110 ADD_ILL_B
+      none ∷  -- 80 SUB_ILL_W, 111 ADD_ILL_W
+      none ∷  -- 81 SUB_ILL_L, 112 ADD_ILL_L
+      source Word ∷  -- 82 SUBA_W, 113 ADDA_W
+      source Long ∷  -- 83 SUBA_L, 114 ADDA_L
+      source (anySize op) ∷  -- 84 SUB_DN, 115 ADD_DN
+      [])
+      (placeIn first row) (source (anySize op))  -- 85 SUB_MEM, 116 ADD_MEM
+
+  -- MAC and MSAC: the second word w; and the long of the parallel load, in modes 2 to 5 where w says a long operand. Mode 5 has its
+  -- displacement before it
+  abbrev pub loadReads : ℕ → ℕ → List Access
+  loadReads mask w =
+      cond (eqb (op / 8 % 8) 5)
+      (wordAt (plus at 4) ++ longAt (loadAddress mask w (plus (addressOf g op) (signExtended Word (numberAt m (plus at 4) Word)))))
+      (longAt (loadAddress mask w (cond (eqb (op / 8 % 8) 4) (minus (addressOf g op) 4) (addressOf g op))))
+
+  abbrev pub macReads : ℕ → List Access
+  macReads mask =
+      let w : ℕ = numberAt m (plus at 2) Word in
+      wordAt (plus at 2)
+      ++ cond (eqb (op / 16 % 4) 0) none (cond (ltb 5 (op / 8 % 8)) none (cond (eqb (w / 0x800 % 2) 0) none (loadReads mask w)))
+
+  unfoldable pub readsA : ℕ → ℕ → List Access
+  readsA mask row =
+      getD
+      (none ∷  -- 86 MACSR_CCR
+      none ∷  -- 87 COPY_ACC
+      none ∷  -- 88 READ_MACSR
+      none ∷  -- 89 READ_MASK
+      none ∷  -- 90 READ_ACCEXT
+      source Long ∷  -- 91 WRITE_MACSR
+      source Long ∷  -- 92 WRITE_MASK
+      none ∷  -- 93 READ_ACC
+      source Long ∷  -- 94 WRITE_ACCEXT
+      source Long ∷  -- 95 WRITE_ACC
+      extensionOf (plus at 2) op Long ∷  -- 96 MOV3Q
+      macReads mask ∷  -- 97 MAC
+      [])
+      (placeIn 86 row) (source Long)  -- 98 LINEA
+
+  unfoldable pub readsB : ℕ → List Access
+  readsB row =
+      getD
+      (source Word ∷  -- 99 CMPA_W
+      source Long ∷  -- 100 CMPA_L
+      source (sizeOf (op / 64)) ∷  -- 101 CMP
+      [])
+      (placeIn 99 row) (source (anySize op))  -- 102 EOR
+
+  unfoldable pub readsC : ℕ → List Access
+  readsC row =
+      getD
+      (source Word ∷  -- 103 MULU_W
+      source Word ∷  -- 104 MULS_W
+      source (anySize op) ∷  -- 105 AND_DN
+      [])
+      (placeIn 103 row) (source (anySize op))  -- 106 AND_MEM
+
+  unfoldable pub readsF : ℕ → List Access
+  readsF row =
+      getD
+      (controlAt g m (plus at 2) op ∷  -- 120 WDEBUG
+      none ∷  -- 121 CACHE
+      extensionOf (plus at 2) op (sizeOf (op / 64)) ∷  -- 122 WDDATA
+      [])
+      (placeIn 120 row) none  -- 123 LINEF
+
+  -- the line is the top four bits; a word of line 8 (75) and a shift (117 to 119) read nothing. mask is the EMAC's
+  unfoldable pub reads : ℕ → List Access
+  reads mask =
+      let row : ℕ = rowOf op in
+      getD
+      (reads0 row ∷
+      reads1 row ∷
+      reads2 row ∷
+      reads3 row ∷
+      reads4 row ∷
+      reads5 row ∷
+      reads6 row ∷
+      reads7 row ∷
+      none ∷
+      reads9D 76 row ∷
+      readsA mask row ∷
+      readsB row ∷
+      readsC row ∷
+      reads9D 107 row ∷
+      none ∷
+      [])
+      (op / 0x1000 % 16) (readsF row)
+
+-- ---- what an instruction leaves to be done
+
+-- MOVEM: a long for each register of the mask, one after the other from a on; `left` of them are still to come
+abbrev pub manyLongs : ℕ → ℕ → ℕ → List Access
+manyLongs zero regs a = none
+manyLongs (suc left) regs a =
+    cond (eqb (regs % 2) 1) (access a 4 ∷ manyLongs left (regs / 2) (plus a 4)) (manyLongs left (regs / 2) a)
+
+-- an entry from the registers s: two longs are stored, sp being A7 with the handler's status register, and the vector is read
+abbrev pub entryAt : Cpu → Level → ℕ → List Access
+entryAt s level vector =
+    let sp : ℕ = addressOf (setSr (handling level (s .sr)) s .r) 7 in
+    access (pcPlace sp) 4 ∷ access (framePlace sp) 4 ∷ access (vectorPlace (s .vbr) vector) 4 ∷ []
+
+-- a return reads two longs
+abbrev pub returnAt : Cpu → List Access
+returnAt s = access (addressOf (s .r) 7) 4 ∷ access (plus (addressOf (s .r) 7) 4) 4 ∷ []
+
+-- s being the registers after the instruction's own changes
+abbrev pub leaves : Cpu → Action → List Access
+leaves s Nothing = none
+leaves s (Store a z v) = access a (bytes z) ∷ []
+leaves s (StoreMany regs a) = manyLongs 16 regs a
+leaves s (LoadMany regs a) = manyLongs 16 regs a
+leaves s (Enter vector pc) = entryAt s Kept vector
+leaves s Return = returnAt s
+leaves s (Status v) = none
+leaves s (Stop v) = none
+leaves s (PushStatus v) = longAt (minus (addressOf (s .r) 7) 4)
+leaves s Halt = none
+leaves s (Other v) = none
+leaves s (Accumulate i scale sub x y) = none
+leaves s (SetAcc i v) = none
+leaves s (SetExt i v) = none
+leaves s (SetMacsr v) = none
+leaves s (SetMask v) = none
+leaves s (CopyAcc from to) = none
+leaves s (ClearAcc i) = none
+leaves s (Refuse n) = none
+
+-- ---- a step: the opcode word, the reads of its row, and what its instruction leaves to be done
+
+unfoldable pub accesses : Cpu → List ℕ → List Access
+accesses s m =
+    let op : ℕ = numberAt m (s .pc) Word in
+    let c : Change = instruction (s .r) (s .pc) (s .sr) (s .other) (s .emac) m op in
+    access (s .pc) 2 ∷ (reads (s .r) (s .pc) m op (s .emac .mask) ++ leaves (applied s c) (c .action))
