@@ -48,7 +48,7 @@ Outside m a n = length m < a + n
 -- some access of a list is not inside
 pub data SomeOutside (m : List ℕ) : List Access → Type 0 where
   this : {x : Access} {l : List Access} → Outside m (x .address) (x .count) → SomeOutside m (x ∷ l)
-  later : {x : Access} {l : List Access} → SomeOutside m l → SomeOutside m (x ∷ l)
+  another : {x : Access} {l : List Access} → SomeOutside m l → SomeOutside m (x ∷ l)
 
 -- ---- the parts
 

@@ -14,7 +14,7 @@
 use Prim.Native.Nat.{ℕ, _+_, _/_, _%_, _≤_, _<_}
 use mathlib.Core.Path.{_≡_, refl, sym, ap, _∙_}
 use mathlib.Core.Bool.{Bool, true, false, cond, _&&_, false≢true}
-use mathlib.Core.List.{List}
+use mathlib.Core.List.{List, [], _∷_}
 use mathlib.Core.Logic.{_↔_, _⊎_, ⊎-elim, inl, inr}
 use native.Mathlib.Omega.{arith}
 use lib.Bits.{bitAnd}
@@ -37,8 +37,7 @@ use Rattle.manual.specs.Memory.{inside, valueAt, numberAt, stored}
 use Rattle.manual.specs.Change.{notCarried}
 use Rattle.manual.specs.Reply.{numberOf, Outcome, completed, unchanged, refusal}
 use Rattle.manual.specs.Admitted.{admitted, tooLong, checked}
-use Rattle.manual.specs.Differences.{vectorPlace}
-use Rattle.manual.specs.Exceptions.{maskOf, setSr, handling, pcPlace, framePlace, entered, left, levelTaken, masked, exception, interrupt, rte, push32, notPopped, pop32, setSrCall, told, ipl, supervisorCall}
+use Rattle.manual.specs.Exceptions.{maskOf, setSr, entered, left, levelTaken, masked, exception, interrupt, rte, push32, notPopped, pop32, setSrCall, told, ipl, supervisorCall}
 use Rattle.manual.specs.Emac.{setMacsr}
 use Rattle.manual.specs.EmacCalls.{accTold, doneWith, accChanged, accGetCall, accSetCall, accPhysCall, setAccPhysCall, setMacsrCall}
 use Rattle.manual.specs.Block.{saysAdmitted, stateAt, notRead, readBlock, blockOf, Stored, storeBlock}
@@ -51,7 +50,7 @@ use Rattle.word.specs.TestLaws.{by-lt}
 use Rattle.memory.specs.MemoryLaws.{value-lt}
 use Rattle.demands.specs.Runs.{Ends, runs}
 use Rattle.demands.specs.Admits.{admits}
-use Rattle.demands.specs.Accesses.{Access, Outside, SomeOutside, reads, leaves, accesses}
+use Rattle.demands.specs.Accesses.{Access, access, Outside, SomeOutside, reads, entryAt, returnAt, leaves, accesses}
 use Rattle.demands.specs.PartLaws.{missed, missed-some, missed-both, Made}
 use Rattle.demands.specs.BodyLaws.{Excused, instruction-made, excused-refused, movec-read, movec-write, mac-fits, mac-row}
 use Rattle.demands.specs.StepLaws.{doing, fetched, not-fetched, perform-refuse}
@@ -106,23 +105,17 @@ pub record Reply3 : Type 0 where
   pub run-3 : (budget : ℕ) (s : Cpu) (m : List ℕ)
       → (numberOf (run budget s m .ran .reply) ≡ 3) ↔ (Ready s m × ((run budget s m .ran .count < budget) × (run budget s m .ran .cpu .stopped ≡ true)))
 
--- an entry stores two longs, sp being A7 with the handler's status register, and reads the vector; a return reads two longs
+-- some access of the call is not inside. An entry stores two longs and reads the vector, a return reads two longs
 pub record Reply4 : Type 0 where
   pub exception-4 : (s : Cpu) (m : List ℕ) (vector pc : ℕ) (level : Level)
-      → let sp : ℕ = addressOf (setSr (handling level (s .sr)) s .r) 7 in
-      (numbered (exception s m vector pc level) ≡ 4)
-      ↔ (Ready s m × ((levelTaken level ≡ true) × (Outside m (pcPlace sp) 4 ⊎ (Outside m (framePlace sp) 4 ⊎ Outside m (vectorPlace (s .vbr) vector) 4))))
+      → (numbered (exception s m vector pc level) ≡ 4) ↔ (Ready s m × ((levelTaken level ≡ true) × SomeOutside m (entryAt s level vector)))
   pub interrupt-4 : (s : Cpu) (m : List ℕ) (vector level : ℕ)
-      → let sp : ℕ = addressOf (setSr (handling (To level) (s .sr)) s .r) 7 in
-      (numbered (interrupt s m vector level) ≡ 4)
-      ↔ (Ready s m
-      × ((level < 8)
-      × ((masked (s .sr) level ≡ false) × (Outside m (pcPlace sp) 4 ⊎ (Outside m (framePlace sp) 4 ⊎ Outside m (vectorPlace (s .vbr) vector) 4)))))
-  pub rte-4 : (s : Cpu) (m : List ℕ)
-      → (numbered (rte s m) ≡ 4) ↔ (Ready s m × (Outside m (addressOf (s .r) 7) 4 ⊎ Outside m (plus (addressOf (s .r) 7) 4) 4))
+      → (numbered (interrupt s m vector level) ≡ 4)
+      ↔ (Ready s m × ((level < 8) × ((masked (s .sr) level ≡ false) × SomeOutside m (entryAt s (To level) vector))))
+  pub rte-4 : (s : Cpu) (m : List ℕ) → (numbered (rte s m) ≡ 4) ↔ (Ready s m × SomeOutside m (returnAt s))
   pub push32-4 : (s : Cpu) (m : List ℕ) (v : ℕ) → (numbered (push32 s m v) ≡ 4) ↔ (Ready s m × Outside m (minus (addressOf (s .r) 7) 4) 4)
   pub pop32-4 : (s : Cpu) (m : List ℕ) → (numberOf (pop32 s m .reply) ≡ 4) ↔ (Ready s m × Outside m (addressOf (s .r) 7) 4)
-  -- a step: some access of the call is not inside
+  -- a step: the fetch of its word, the reads of the word's row, and what its instruction leaves to be done
   pub step-4 : (s : Cpu) (m : List ℕ) → (numbered (step s m) ≡ 4) ↔ (Ready s m × ((s .stopped ≡ false) × SomeOutside m (accesses s m)))
   -- a run: with budget left, some access of the next step is not inside, in the state and memory after the steps that were done
   pub run-4 : (budget : ℕ) (s : Cpu) (m : List ℕ)
@@ -134,6 +127,13 @@ pub record Reply5 : Type 0 where
   pub step-5 : (s : Cpu) (m : List ℕ) → ((j : ℕ) → getD m j 0 < 256)
       → (numbered (step s m) ≡ 5)
       ↔ (Ready s m × ((s .stopped ≡ false) × ((s .pc + 2 ≤ length m) × NotCarriedWord m (s .pc) (numberAt m (s .pc) Word))))
+  -- a run: with budget left, in the state and memory after the steps that were done
+  pub run-5 : (budget : ℕ) (s : Cpu) (m : List ℕ) → ((j : ℕ) → getD m j 0 < 256)
+      → let r : RunOutcome = run budget s m in
+      let pc : ℕ = r .ran .cpu .pc in
+      (numberOf (r .ran .reply) ≡ 5)
+      ↔ (Ready s m
+      × ((r .ran .count < budget) × ((r .ran .cpu .stopped ≡ false) × ((pc + 2 ≤ length (r .memory)) × NotCarriedWord (r .memory) pc (numberAt (r .memory) pc Word)))))
 
 pub record Reply6 : Type 0 where
   pub exception-6 : (s : Cpu) (m : List ℕ) (vector pc level : ℕ) → (numbered (exception s m vector pc (To level)) ≡ 6) ↔ (Ready s m × (8 ≤ level))
@@ -425,6 +425,13 @@ module _ (budget : ℕ) (s : Cpu) (m : List ℕ) where
       ↔ (Ready s m × ((ran .ran .count < budget) × ((ran .ran .cpu .stopped ≡ false) × SomeOutside (ran .memory) (accesses (ran .ran .cpu) (ran .memory)))))
   of-run-4 = of-run-step 4 (λ h. omega arith) (λ h. omega arith) (λ h. omega arith) (of-step-4 (ran .ran .cpu) (ran .memory))
 
+  of-run-5 : ((j : ℕ) → getD m j 0 < 256)
+      → let pc : ℕ = ran .ran .cpu .pc in
+      (number ≡ 5)
+      ↔ (Ready s m
+      × ((ran .ran .count < budget) × ((ran .ran .cpu .stopped ≡ false) × ((pc + 2 ≤ length (ran .memory)) × NotCarriedWord (ran .memory) pc (numberAt (ran .memory) pc Word)))))
+  of-run-5 all = of-run-step 5 (λ h. omega arith) (λ h. omega arith) (λ h. omega arith) (of-step-5 (ran .ran .cpu) (ran .memory) (runs .still-bytes budget s m all))
+
 -- ---- entries and returns
 
 module _ (s : Cpu) (m : List ℕ) (vector pc : ℕ) (level : Level) where
@@ -432,7 +439,7 @@ module _ (s : Cpu) (m : List ℕ) (vector pc : ℕ) (level : Level) where
   entry = entered s s level vector pc m
 
   entry-never : (k : ℕ) → (0 ≡ k → ⊥) → (4 ≡ k → ⊥) → numbered entry ≡ k → ⊥
-  entry-never k n0 n4 e = ⊎-elim (λ h. n0 (sym h ∙ e)) (λ h. n4 (sym h ∙ e)) (laws.entered-only s s level vector pc m)
+  entry-never = laws.answers-never m (entryAt s level vector) entry (laws.entered-answers s s level vector pc m)
 
   abbrev called : Outcome
   called = cond (levelTaken level) entry (unchanged s OutOfRange m)
@@ -452,14 +459,12 @@ module _ (s : Cpu) (m : List ℕ) (vector pc : ℕ) (level : Level) where
   unfolding exception
   of-exception-2 = laws.checked-2 s m called (called-never 2 (λ h. omega arith) (λ h. omega arith) (λ h. omega arith))
 
-  of-exception-4 : let sp : ℕ = addressOf (setSr (handling level (s .sr)) s .r) 7 in
-      (numbered (exception s m vector pc level) ≡ 4)
-      ↔ (Ready s m × ((levelTaken level ≡ true) × (Outside m (pcPlace sp) 4 ⊎ (Outside m (framePlace sp) 4 ⊎ Outside m (vectorPlace (s .vbr) vector) 4))))
+  of-exception-4 : (numbered (exception s m vector pc level) ≡ 4) ↔ (Ready s m × ((levelTaken level ≡ true) × SomeOutside m (entryAt s level vector)))
   unfolding exception
   of-exception-4 =
       laws.iff-trans (laws.checked-on s m called 4 (λ h. omega arith) (λ h. omega arith))
       (laws.iff-and laws.iff-same
-      (rw called-number (laws.iff-trans (laws.later-else 4 (numbered entry) 6 (λ h. omega arith) (levelTaken level)) (laws.iff-and laws.iff-same (laws.entered-4 s s level vector pc m)))))
+      (rw called-number (laws.iff-trans (laws.later-else 4 (numbered entry) 6 (λ h. omega arith) (levelTaken level)) (laws.iff-and laws.iff-same (laws.answers-4 m (entryAt s level vector) entry (laws.entered-answers s s level vector pc m))))))
 
   of-exception-6 : (numbered (exception s m vector pc level) ≡ 6) ↔ (Ready s m × (levelTaken level ≡ false))
   unfolding exception
@@ -502,11 +507,7 @@ module _ (s : Cpu) (m : List ℕ) (vector level : ℕ) where
   unfolding interrupt
   of-interrupt-2 = laws.checked-2 s m asked (asked-never 2 (λ h. omega arith) (λ h. omega arith) (λ h. omega arith) (λ h. omega arith))
 
-  of-interrupt-4 : let sp : ℕ = addressOf (setSr (handling (To level) (s .sr)) s .r) 7 in
-      (numbered (interrupt s m vector level) ≡ 4)
-      ↔ (Ready s m
-      × ((level < 8)
-      × ((masked (s .sr) level ≡ false) × (Outside m (pcPlace sp) 4 ⊎ (Outside m (framePlace sp) 4 ⊎ Outside m (vectorPlace (s .vbr) vector) 4)))))
+  of-interrupt-4 : (numbered (interrupt s m vector level) ≡ 4) ↔ (Ready s m × ((level < 8) × ((masked (s .sr) level ≡ false) × SomeOutside m (entryAt s (To level) vector))))
   unfolding interrupt
   of-interrupt-4 =
       laws.iff-trans (laws.checked-on s m asked 4 (λ h. omega arith) (λ h. omega arith))
@@ -516,7 +517,7 @@ module _ (s : Cpu) (m : List ℕ) (vector level : ℕ) where
       (laws.iff-and (laws.iff-lt level 8)
       (rw tried-number
       (laws.iff-trans (laws.later 4 (numbered taken) 7 (λ h. omega arith) (masked (s .sr) level))
-      (laws.iff-and laws.iff-same (laws.entered-4 s s (To level) vector (s .pc) m))))))))
+      (laws.iff-and laws.iff-same (laws.answers-4 m (entryAt s (To level) vector) taken (laws.entered-answers s s (To level) vector (s .pc) m)))))))))
 
   of-interrupt-6 : (numbered (interrupt s m vector level) ≡ 6) ↔ (Ready s m × (8 ≤ level))
   unfolding interrupt
@@ -546,7 +547,7 @@ module _ (s : Cpu) (m : List ℕ) (vector level : ℕ) where
 
 module _ (s : Cpu) (m : List ℕ) where
   back-never : (k : ℕ) → (0 ≡ k → ⊥) → (4 ≡ k → ⊥) → numbered (left s s m) ≡ k → ⊥
-  back-never k n0 n4 e = ⊎-elim (λ h. n0 (sym h ∙ e)) (λ h. n4 (sym h ∙ e)) (laws.left-only s s m)
+  back-never = laws.answers-never m (returnAt s) (left s s m) (laws.left-answers s s m)
 
   of-rte-1 : (numbered (rte s m) ≡ 1) ↔ (0x100_0000 < length m)
   unfolding rte
@@ -556,9 +557,9 @@ module _ (s : Cpu) (m : List ℕ) where
   unfolding rte
   of-rte-2 = laws.checked-2 s m (left s s m) (back-never 2 (λ h. omega arith) (λ h. omega arith))
 
-  of-rte-4 : (numbered (rte s m) ≡ 4) ↔ (Ready s m × (Outside m (addressOf (s .r) 7) 4 ⊎ Outside m (plus (addressOf (s .r) 7) 4) 4))
+  of-rte-4 : (numbered (rte s m) ≡ 4) ↔ (Ready s m × SomeOutside m (returnAt s))
   unfolding rte
-  of-rte-4 = laws.iff-trans (laws.checked-on s m (left s s m) 4 (λ h. omega arith) (λ h. omega arith)) (laws.iff-and laws.iff-same (laws.left-4 s s m))
+  of-rte-4 = laws.iff-trans (laws.checked-on s m (left s s m) 4 (λ h. omega arith) (λ h. omega arith)) (laws.iff-and laws.iff-same (laws.answers-4 m (returnAt s) (left s s m) (laws.left-answers s s m)))
 
   -- a push and a pop
 
@@ -569,7 +570,7 @@ module _ (s : Cpu) (m : List ℕ) where
   pushing v = cond (inside m below 4) (completed (withAddress 7 below s) 0 (stored m below Long v)) (unchanged s NotInside m)
 
   push-never : (v k : ℕ) → (0 ≡ k → ⊥) → (4 ≡ k → ⊥) → numbered (pushing v) ≡ k → ⊥
-  push-never v k n0 n4 e = ⊎-elim (λ h. n0 (sym h ∙ e)) (λ h. n4 (sym h ∙ e)) (laws.one-only s s m (inside m below 4) _ _)
+  push-never v = laws.answers-never m (access below 4 ∷ []) (pushing v) (laws.one-answers s s m below 4 _ _)
 
   of-push-1 : (v : ℕ) → (numbered (push32 s m v) ≡ 1) ↔ (0x100_0000 < length m)
   unfolding push32
@@ -583,12 +584,18 @@ module _ (s : Cpu) (m : List ℕ) where
   unfolding push32
   of-push-4 v =
       laws.iff-trans (laws.checked-on s m (pushing v) 4 (λ h. omega arith) (λ h. omega arith))
-      (laws.iff-and laws.iff-same (laws.iff-trans (laws.one-4 s s m (inside m below 4) _ _) (laws.outside m below 4)))
+      (laws.iff-and laws.iff-same (laws.iff-trans (laws.answers-4 m (access below 4 ∷ []) (pushing v) (laws.one-answers s s m below 4 _ _)) (laws.one-outside m below 4)))
 
   -- a pop answers as an outcome with the same reply would
-  popping : numberOf (pop32 s m .reply) ≡ numbered (checked s m (cond (inside m (addressOf (s .r) 7) 4) (completed s 0 m) (unchanged s NotInside m)))
+  abbrev top : ℕ
+  top = addressOf (s .r) 7
+
+  abbrev popped : Outcome
+  popped = cond (inside m top 4) (completed s 0 m) (unchanged s NotInside m)
+
+  popping : numberOf (pop32 s m .reply) ≡ numbered (checked s m popped)
   unfolding pop32 refusal
-  popping = by (tooLong m) (admitted s) (inside m (addressOf (s .r) 7) 4) _ refl
+  popping = by (tooLong m) (admitted s) (inside m top 4) _ refl
     where
       by : (a b c : Bool) (p : Popped) → p .reply ≡ Done
           → numberOf (cond a (notPopped s TooLong) (cond b (cond c p (notPopped s NotInside)) (notPopped s NotAdmitted)) .reply)
@@ -598,20 +605,20 @@ module _ (s : Cpu) (m : List ℕ) where
       by false true false p e = refl
       by false false c p e = refl
 
-  pop-never : (k : ℕ) → (0 ≡ k → ⊥) → (4 ≡ k → ⊥) → numbered (cond (inside m (addressOf (s .r) 7) 4) (completed s 0 m) (unchanged s NotInside m)) ≡ k → ⊥
-  pop-never k n0 n4 e = ⊎-elim (λ h. n0 (sym h ∙ e)) (λ h. n4 (sym h ∙ e)) (laws.one-only s s m (inside m (addressOf (s .r) 7) 4) s m)
+  pop-never : (k : ℕ) → (0 ≡ k → ⊥) → (4 ≡ k → ⊥) → numbered popped ≡ k → ⊥
+  pop-never = laws.answers-never m (access top 4 ∷ []) popped (laws.one-answers s s m top 4 s m)
 
   of-pop-1 : (numberOf (pop32 s m .reply) ≡ 1) ↔ (0x100_0000 < length m)
-  of-pop-1 = rw popping (laws.checked-1 s m _ (pop-never 1 (λ h. omega arith) (λ h. omega arith)))
+  of-pop-1 = rw popping (laws.checked-1 s m popped (pop-never 1 (λ h. omega arith) (λ h. omega arith)))
 
   of-pop-2 : (numberOf (pop32 s m .reply) ≡ 2) ↔ ((length m ≤ 0x100_0000) × (admitted s ≡ false))
-  of-pop-2 = rw popping (laws.checked-2 s m _ (pop-never 2 (λ h. omega arith) (λ h. omega arith)))
+  of-pop-2 = rw popping (laws.checked-2 s m popped (pop-never 2 (λ h. omega arith) (λ h. omega arith)))
 
-  of-pop-4 : (numberOf (pop32 s m .reply) ≡ 4) ↔ (Ready s m × Outside m (addressOf (s .r) 7) 4)
+  of-pop-4 : (numberOf (pop32 s m .reply) ≡ 4) ↔ (Ready s m × Outside m top 4)
   of-pop-4 =
       rw popping
-      (laws.iff-trans (laws.checked-on s m _ 4 (λ h. omega arith) (λ h. omega arith))
-      (laws.iff-and laws.iff-same (laws.iff-trans (laws.one-4 s s m (inside m (addressOf (s .r) 7) 4) s m) (laws.outside m (addressOf (s .r) 7) 4))))
+      (laws.iff-trans (laws.checked-on s m popped 4 (λ h. omega arith) (λ h. omega arith))
+      (laws.iff-and laws.iff-same (laws.iff-trans (laws.answers-4 m (access top 4 ∷ []) popped (laws.one-answers s s m top 4 s m)) (laws.one-outside m top 4))))
 
 -- ---- the calls on the state alone
 
@@ -861,7 +868,7 @@ pub reply-4 : Reply4
 reply-4 = record { step-4 = of-step-4; run-4 = of-run-4; exception-4 = of-exception-4; interrupt-4 = of-interrupt-4; rte-4 = of-rte-4; push32-4 = of-push-4; pop32-4 = of-pop-4 }
 
 pub reply-5 : Reply5
-reply-5 = record { step-5 = of-step-5 }
+reply-5 = record { step-5 = of-step-5; run-5 = of-run-5 }
 
 pub reply-6 : Reply6
 reply-6 = record {

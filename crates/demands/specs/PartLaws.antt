@@ -30,7 +30,7 @@ use Rattle.manual.specs.Memory.{inside, numberAt, load}
 use Rattle.manual.specs.Address.{operand, extension, immediate, locate, fetch, value, source, reached, control, _then_}
 use Rattle.manual.specs.Reply.{numberOf}
 use Rattle.manual.specs.Change.{done, store, acting, enterAfter, enter, illegal, privilege, refuse, refused, reading, reaching, locating, put}
-use Rattle.demands.specs.Accesses.{Access, access, words, named, own, extensionOf, operandAt, reachedBy, controlAt, SomeOutside, this, later}
+use Rattle.demands.specs.Accesses.{Access, access, words, named, own, extensionOf, operandAt, reachedBy, controlAt, SomeOutside, this, another}
 
 -- the number that an action refuses with; 0 where it is no refusal
 abbrev pub refusing : Action → ℕ
@@ -71,10 +71,10 @@ missed-some m (x ∷ l) = by (inside m (x .address) (x .count)) refl (missed-som
   where
     past : inside m (x .address) (x .count) ≡ true → SomeOutside m (x ∷ l) → SomeOutside m l
     past i (this o) = absurd (omega (arith, leb-true (x .address + x .count) (length m) i))
-    past i (later h) = h
+    past i (another h) = h
 
     by : (b : Bool) → inside m (x .address) (x .count) ≡ b → (missed m l ≡ true) ↔ SomeOutside m l → (cond b (missed m l) true ≡ true) ↔ SomeOutside m (x ∷ l)
-    by true i rest = (λ h. later (rest .0 h), λ h. rest .1 (past i h))
+    by true i rest = (λ h. another (rest .0 h), λ h. rest .1 (past i h))
     by false i rest = (λ h. this (leb-false (x .address + x .count) (length m) i), λ h. refl)
 
 -- c refuses with 4 where one of the accesses l is not inside, and with nothing otherwise

@@ -1,8 +1,8 @@
 -- Replies by their numbers: what number a tree of tests gives, and when. Assumes nothing.
-use Prim.Native.Nat.{ℕ, zero, suc, _+_, _/_, _%_, _≤_, _<_}
+use Prim.Native.Nat.{ℕ, zero, suc, _/_, _%_, _≤_, _<_}
 use mathlib.Core.Path.{_≡_, refl, sym, ap, _∙_}
 use mathlib.Core.Bool.{Bool, true, false, cond, _&&_, false≢true}
-use mathlib.Core.List.{List, _∷_}
+use mathlib.Core.List.{List, [], _∷_}
 use mathlib.Core.Logic.{_↔_, _⊎_, ⊎-elim, inl, inr}
 use native.Mathlib.Omega.{arith}
 use lib.Dec.{eqb, ltb, leb}
@@ -25,8 +25,8 @@ use Rattle.manual.specs.Differences.{vectorPlace}
 use Rattle.manual.specs.Change.{notCarried, refuse}
 use Rattle.manual.specs.Exceptions.{setSr, handling, pcPlace, framePlace, framed, handlerState, entered, left}
 use Rattle.instructions.specs.Perform.{statusPushed, act, perform}
-use Rattle.demands.specs.Accesses.{access, Outside, entryAt, returnAt, manyLongs, leaves}
-use Rattle.demands.specs.PartLaws.{refusing, missed}
+use Rattle.demands.specs.Accesses.{Access, access, Outside, SomeOutside, this, another, entryAt, returnAt, manyLongs, leaves}
+use Rattle.demands.specs.PartLaws.{refusing, missed, missed-some}
 
 abbrev pub numbered : Outcome → ℕ
 numbered o = numberOf (o .stepped .reply)
@@ -103,7 +103,7 @@ number-same s n m = refl
 
 -- replies 1 and 2 come before all else
 module _ (s : Cpu) (m : List ℕ) (o : Outcome) where
-  checked-number : numbered (checked s m o) ≡ cond (tooLong m) 1 (cond (admitted s) (numbered o) 2)
+  pub checked-number : numbered (checked s m o) ≡ cond (tooLong m) 1 (cond (admitted s) (numbered o) 2)
   unfolding numberOf refusal
   checked-number =
       number-cond (tooLong m) (unchanged s TooLong m) (cond (admitted s) o (unchanged s NotAdmitted m))
@@ -127,113 +127,75 @@ module _ (s : Cpu) (m : List ℕ) (o : Outcome) where
       (iff-trans (iff-and (iff-not-lt 0x100_0000 (length m)) (later-else k (numbered o) 2 n2 (admitted s)))
       (λ h. ((h .0, h .1 .0), h .1 .1), λ h. (h .0 .0, (h .0 .1, h .1)))))
 
--- ---- what an entry, a return and an instruction's action answer: 0, or 4 where an access is not inside
+-- ---- what an entry, a return and an instruction's action answer
 
-pub outside : (m : List ℕ) (a n : ℕ) → (inside m a n ≡ false) ↔ Outside m a n
-outside m a n = iff-not-le (a + n) (length m)
+-- the outcome is refused with 4 where one of the accesses l is not inside, and done otherwise
+abbrev pub Answers : List ℕ → List Access → Outcome → Type 0
+Answers m l o = numbered o ≡ cond (missed m l) 4 0
 
-abbrev three : Bool → Bool → Bool → ℕ
-three a b c = cond a (cond b (cond c 0 4) 4) 4
+module _ (m : List ℕ) (l : List Access) (o : Outcome) (h : Answers m l o) where
+  pub answers-4 : (numbered o ≡ 4) ↔ SomeOutside m l
+  answers-4 = rw h (iff-trans (here 4 0 (λ e. omega arith) (missed m l)) (missed-some m l))
 
-three-4 : (a b c : Bool) → (three a b c ≡ 4) ↔ ((a ≡ false) ⊎ ((b ≡ false) ⊎ (c ≡ false)))
-three-4 true true true = (λ h. absurd (omega arith), ⊎-elim (λ h. absurd (false≢true (sym h))) (⊎-elim (λ h. absurd (false≢true (sym h))) (λ h. absurd (false≢true (sym h)))))
-three-4 true true false = (λ h. inr (inr refl), λ h. refl)
-three-4 true false c = (λ h. inr (inl refl), λ h. refl)
-three-4 false b c = (λ h. inl refl, λ h. refl)
+  pub answers-never : (k : ℕ) → (0 ≡ k → ⊥) → (4 ≡ k → ⊥) → numbered o ≡ k → ⊥
+  answers-never k n0 n4 e = neither (missed m l) 4 0 k n4 n0 (sym h ∙ e)
 
-three-only : (a b c : Bool) → (three a b c ≡ 0) ⊎ (three a b c ≡ 4)
-three-only true true true = inl refl
-three-only true true false = inr refl
-three-only true false c = inr refl
-three-only false b c = inr refl
+pub one-outside : (m : List ℕ) (a n : ℕ) → SomeOutside m (access a n ∷ []) ↔ Outside m a n
+one-outside m a n = (only, λ h. this h)
+  where
+    no-more : SomeOutside m [] → ⊥
+    no-more = elim [ ]
 
-three-missed : (a b c : Bool) → three a b c ≡ cond (cond a (cond b (cond c false true) true) true) 4 0
-three-missed true true true = refl
-three-missed true true false = refl
-three-missed true false c = refl
-three-missed false b c = refl
+    only : SomeOutside m (access a n ∷ []) → Outside m a n
+    only (this h) = h
+    only (another h) = absurd (no-more h)
 
 module _ (given s : Cpu) (level : Level) (vector pc : ℕ) (m : List ℕ) where
   -- A7 with the handler's status register
-  abbrev pub pointer : ℕ
+  abbrev pointer : ℕ
   pointer = addressOf (setSr (handling level (s .sr)) s .r) 7
 
-  entered-number : numbered (entered given s level vector pc m) ≡ three (inside m (pcPlace pointer) 4) (inside m (framePlace pointer) 4) (inside m (vectorPlace (s .vbr) vector) 4)
+  pub entered-answers : Answers m (entryAt s level vector) (entered given s level vector pc m)
   unfolding entered numberOf refusal
-  entered-number =
+  entered-answers =
       by (inside m (pcPlace pointer) 4) (inside m (framePlace pointer) 4) (inside m (vectorPlace (s .vbr) vector) 4)
       (completed (handlerState (setSr (handling level (s .sr)) s) (framePlace pointer) (numberAt (framed m pointer vector (s .sr) pc) (vectorPlace (s .vbr) vector) Long)) vector (framed m pointer vector (s .sr) pc))
       refl
     where
       by : (a b c : Bool) (all : Outcome) → numbered all ≡ 0
-          → numbered (cond a (cond b (cond c all (unchanged given NotInside m)) (unchanged given NotInside m)) (unchanged given NotInside m)) ≡ three a b c
+          → numbered (cond a (cond b (cond c all (unchanged given NotInside m)) (unchanged given NotInside m)) (unchanged given NotInside m))
+          ≡ cond (cond a (cond b (cond c false true) true) true) 4 0
       by true true true all e = e
       by true true false all e = refl
       by true false c all e = refl
       by false b c all e = refl
 
-  pub entered-4 : (numbered (entered given s level vector pc m) ≡ 4)
-      ↔ (Outside m (pcPlace pointer) 4 ⊎ (Outside m (framePlace pointer) 4 ⊎ Outside m (vectorPlace (s .vbr) vector) 4))
-  entered-4 =
-      rw entered-number
-      (iff-trans (three-4 (inside m (pcPlace pointer) 4) (inside m (framePlace pointer) 4) (inside m (vectorPlace (s .vbr) vector) 4))
-      (iff-or (outside m (pcPlace pointer) 4) (iff-or (outside m (framePlace pointer) 4) (outside m (vectorPlace (s .vbr) vector) 4))))
-
-  pub entered-missed : numbered (entered given s level vector pc m) ≡ cond (missed m (entryAt s level vector)) 4 0
-  entered-missed = entered-number ∙ three-missed (inside m (pcPlace pointer) 4) (inside m (framePlace pointer) 4) (inside m (vectorPlace (s .vbr) vector) 4)
-
-  pub entered-only : (numbered (entered given s level vector pc m) ≡ 0) ⊎ (numbered (entered given s level vector pc m) ≡ 4)
-  entered-only = rw entered-number (three-only (inside m (pcPlace pointer) 4) (inside m (framePlace pointer) 4) (inside m (vectorPlace (s .vbr) vector) 4))
-
 module _ (given s : Cpu) (m : List ℕ) where
-  left-number : numbered (left given s m) ≡ three (inside m (addressOf (s .r) 7) 4) (inside m (plus (addressOf (s .r) 7) 4) 4) true
+  pub left-answers : Answers m (returnAt s) (left given s m)
   unfolding left numberOf refusal
-  left-number = by (inside m (addressOf (s .r) 7) 4) (inside m (plus (addressOf (s .r) 7) 4) 4) _
+  left-answers = by (inside m (addressOf (s .r) 7) 4) (inside m (plus (addressOf (s .r) 7) 4) 4) _
     where
-      by : (a b : Bool) (t : Cpu) → numbered (cond a (cond b (completed t 0 m) (unchanged given NotInside m)) (unchanged given NotInside m)) ≡ three a b true
+      by : (a b : Bool) (t : Cpu)
+          → numbered (cond a (cond b (completed t 0 m) (unchanged given NotInside m)) (unchanged given NotInside m)) ≡ cond (cond a (cond b false true) true) 4 0
       by true true t = refl
       by true false t = refl
       by false b t = refl
 
-  pub left-4 : (numbered (left given s m) ≡ 4) ↔ (Outside m (addressOf (s .r) 7) 4 ⊎ Outside m (plus (addressOf (s .r) 7) 4) 4)
-  left-4 =
-      rw left-number
-      (iff-trans (three-4 (inside m (addressOf (s .r) 7) 4) (inside m (plus (addressOf (s .r) 7) 4) 4) true)
-      (iff-or (outside m (addressOf (s .r) 7) 4) (iff-trans (⊎-elim (λ h. h) (λ h. absurd (false≢true (sym h))), λ h. inl h) (outside m (plus (addressOf (s .r) 7) 4) 4))))
-
-  left-missed : numbered (left given s m) ≡ cond (missed m (returnAt s)) 4 0
-  left-missed = left-number ∙ three-missed (inside m (addressOf (s .r) 7) 4) (inside m (plus (addressOf (s .r) 7) 4) 4) true
-
-  pub left-only : (numbered (left given s m) ≡ 0) ⊎ (numbered (left given s m) ≡ 4)
-  left-only = rw left-number (three-only (inside m (addressOf (s .r) 7) 4) (inside m (plus (addressOf (s .r) 7) 4) 4) true)
-
   -- one access
-  one-number : (b : Bool) (t : Cpu) (m′ : List ℕ) → numbered (cond b (completed t 0 m′) (unchanged given NotInside m)) ≡ cond b 0 4
+  pub one-answers : (a n : ℕ) (t : Cpu) (m′ : List ℕ) → Answers m (access a n ∷ []) (cond (inside m a n) (completed t 0 m′) (unchanged given NotInside m))
   unfolding numberOf refusal
-  one-number true t m′ = refl
-  one-number false t m′ = refl
-
-  pub one-4 : (b : Bool) (t : Cpu) (m′ : List ℕ) → (numbered (cond b (completed t 0 m′) (unchanged given NotInside m)) ≡ 4) ↔ (b ≡ false)
-  one-4 b t m′ = rw (one-number b t m′) (here-else 4 0 (λ h. omega arith) b)
-
-  pub one-only : (b : Bool) (t : Cpu) (m′ : List ℕ)
-      → (numbered (cond b (completed t 0 m′) (unchanged given NotInside m)) ≡ 0) ⊎ (numbered (cond b (completed t 0 m′) (unchanged given NotInside m)) ≡ 4)
-  unfolding numberOf refusal
-  one-only true t m′ = inl refl
-  one-only false t m′ = inr refl
-
-  -- and it is the one that is missed
-  one-missed : (b : Bool) (t : Cpu) (m′ : List ℕ) → numbered (cond b (completed t 0 m′) (unchanged given NotInside m)) ≡ cond (cond b false true) 4 0
-  one-missed b t m′ = one-number b t m′ ∙ by b
+  one-answers a n t m′ = by (inside m a n)
     where
-      by : (b : Bool) → cond {A = ℕ} b 0 4 ≡ cond (cond b false true) 4 0
+      by : (b : Bool) → numbered (cond b (completed t 0 m′) (unchanged given NotInside m)) ≡ cond (cond b false true) 4 0
       by true = refl
       by false = refl
 
-  all-missed : (b c : Bool) → b ≡ cond c false true → (t : Cpu) (m′ : List ℕ) → numbered (cond b (completed t 0 m′) (unchanged given NotInside m)) ≡ cond c 4 0
-  all-missed b c e t m′ = rw e (one-number (cond c false true) t m′ ∙ by c)
+  -- many
+  all-answers : (b c : Bool) → b ≡ cond c false true → (t : Cpu) (m′ : List ℕ) → numbered (cond b (completed t 0 m′) (unchanged given NotInside m)) ≡ cond c 4 0
+  unfolding numberOf refusal
+  all-answers b c e t m′ = rw e (by c)
     where
-      by : (c : Bool) → cond {A = ℕ} (cond c false true) 0 4 ≡ cond c 4 0
+      by : (c : Bool) → numbered (cond (cond c false true) (completed t 0 m′) (unchanged given NotInside m)) ≡ cond c 4 0
       by true = refl
       by false = refl
 
@@ -258,14 +220,14 @@ module _ (given s : Cpu) (m : List ℕ) where
   act-number : (a : Action) → numbered (act given s a m) ≡ cond (missed m (leaves s a)) 4 (refusing a)
   unfolding numberOf refusal statusPushed
   act-number Nothing = refl
-  act-number (Store a z v) = one-missed (inside m a (bytes z)) _ _
-  act-number (StoreMany regs a) = all-missed _ (missed m (manyLongs 16 regs a)) (many-missed 16 regs a) _ _
-  act-number (LoadMany regs a) = all-missed _ (missed m (manyLongs 16 regs a)) (many-missed 16 regs a) _ _
-  act-number (Enter vector pc) = entered-missed given s _ vector pc m
-  act-number Return = left-missed
+  act-number (Store a z v) = one-answers a (bytes z) _ _
+  act-number (StoreMany regs a) = all-answers _ (missed m (manyLongs 16 regs a)) (many-missed 16 regs a) _ _
+  act-number (LoadMany regs a) = all-answers _ (missed m (manyLongs 16 regs a)) (many-missed 16 regs a) _ _
+  act-number (Enter vector pc) = entered-answers given s _ vector pc m
+  act-number Return = left-answers
   act-number (Status v) = refl
   act-number (Stop v) = refl
-  act-number (PushStatus v) = one-missed (inside m (minus (addressOf (s .r) 7) 4) 4) _ _
+  act-number (PushStatus v) = one-answers (minus (addressOf (s .r) 7) 4) 4 _ _
   act-number Halt = refl
   act-number (Other v) = refl
   act-number (Accumulate i scale sub x y) = refl

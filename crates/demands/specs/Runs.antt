@@ -2,14 +2,15 @@
 --
 -- A run of budget n steps until n are done (reply 0) or one is refused (that reply). Its count, state and memory are those of that
 -- many steps, each of them done; a run that stops early stops at the first step that is refused. Replies 1 and 2 come first at
--- every budget, with count 0 and the state and memory as given. Memory stays as long as it was. Assumes nothing.
-use Prim.Native.Nat.{ℕ, zero, suc, _<_}
+-- every budget, with count 0 and the state and memory as given. Memory stays as long as it was, and its bytes stay bytes. Assumes nothing.
+use Prim.Native.Nat.{ℕ, zero, suc, _+_, _/_, _%_, _<_}
 use mathlib.Core.Path.{_≡_, refl, sym, ap, _∙_}
 use mathlib.Core.Bool.{Bool, true, false, cond, false≢true}
 use mathlib.Core.List.{List}
 use mathlib.Core.Logic.{_⊎_, ⊎-elim, inl, inr}
 use native.Mathlib.Omega.{arith}
-use lib.ListN.{length}
+use lib.Dec.{eqb}
+use lib.ListN.{length, getD}
 use Rattle.manual.specs.declared.Cpu.{Cpu}
 use Rattle.manual.specs.declared.Reply.{Reply}
 use Rattle.manual.specs.declared.Reply.the-variants.{Done, TooLong, NotAdmitted, Stopped, NotInside, NotCarried, OutOfRange, Masked, WrongVersion, WrongLength}
@@ -19,8 +20,8 @@ use Rattle.manual.specs.declared.Action.{Action}
 use Rattle.manual.specs.declared.Action.the-variants.{Nothing, Store, StoreMany, LoadMany, Enter, Return, Status, Stop, PushStatus, Halt, Other, Accumulate, SetAcc, SetExt, SetMacsr, SetMask, CopyAcc, ClearAcc, Refuse}
 use Rattle.manual.specs.declared.Change.{Change}
 use Rattle.manual.specs.Word.{bytes, plus, minus}
-use Rattle.manual.specs.Registers.{addressOf, applied}
-use Rattle.manual.specs.Memory.{inside, manyInside}
+use Rattle.manual.specs.Registers.{addressOf, general, applied}
+use Rattle.manual.specs.Memory.{inside, storeAt, manyInside, storedMany}
 use Rattle.manual.specs.Differences.{vectorPlace}
 use Rattle.manual.specs.Exceptions.{setSr, handling, pcPlace, framePlace, framed, entered, left}
 use Rattle.manual.specs.Reply.{numberOf, isDone, Outcome, completed, unchanged}
@@ -28,8 +29,9 @@ use Rattle.manual.specs.Admitted.{admitted, tooLong}
 use Rattle.instructions.specs.Perform.{statusPushed, act, perform}
 use Rattle.instructions.specs.Step.{execute, step}
 use Rattle.instructions.specs.Run.{RunOutcome, ended, afterOne, steps, run}
-use Rattle.memory.specs.MemoryLaws.{length-store, length-stored-many}
+use Rattle.memory.specs.MemoryLaws.{length-store}
 use Rattle.demands.specs.Refusals.{NotZero, step-kept}
+use Rattle.demands.specs.ValueLaws.{store-bytes}
 
 -- n steps, all of them done, lead from s and m to s′ and m′
 pub data Steps : ℕ → Cpu → List ℕ → Cpu → List ℕ → Type 0 where
@@ -48,6 +50,7 @@ pub record Runs : Type 0 where
   pub not-admitted : (budget : ℕ) (s : Cpu) (m : List ℕ) → tooLong m ≡ false → admitted s ≡ false → run budget s m ≡ ended NotAdmitted 0 s m
   pub that-many : (budget : ℕ) (s : Cpu) (m : List ℕ) → Steps (run budget s m .ran .count) s m (run budget s m .ran .cpu) (run budget s m .memory)
   pub as-long : (budget : ℕ) (s : Cpu) (m : List ℕ) → length (run budget s m .memory) ≡ length m
+  pub still-bytes : (budget : ℕ) (s : Cpu) (m : List ℕ) → ((j : ℕ) → getD m j 0 < 256) → (j : ℕ) → getD (run budget s m .memory) j 0 < 256
   pub ends : (budget : ℕ) (s : Cpu) (m : List ℕ) → tooLong m ≡ false → admitted s ≡ true → Ends budget (run budget s m)
 
 -- ---- the proofs
@@ -99,85 +102,95 @@ steps-many (suc left) s m = by (isDone (step s m .stepped .reply)) refl (steps-m
         ap₂-step : {s′ : Cpu} {m′ : List ℕ} → s′ ≡ s → m′ ≡ m → step s′ m′ .stepped .reply ≡ step s m .stepped .reply
         ap₂-step p q = cc
 
--- ---- memory stays as long as it was
+-- ---- what every store keeps of memory, a step keeps, and so does a run
 
-module _ (given : Cpu) (m : List ℕ) where
-  either-long : (b : Bool) (x y : Outcome) → length (x .memory) ≡ length m → length (y .memory) ≡ length m → length (cond b x y .memory) ≡ length m
-  either-long true x y p q = p
-  either-long false x y p q = q
+module _ (K : List ℕ → Type 0) (keeps : (m : List ℕ) (a n v : ℕ) → K m → K (storeAt m a n v)) where
+  many-kept : (left : ℕ) (g : List ℕ) (n mask at : ℕ) (m : List ℕ) → K m → K (storedMany left g n mask at m)
+  unfolding storedMany
+  many-kept zero g n mask at m h = h
+  many-kept (suc left) g n mask at m h =
+      pick (eqb (mask % 2) 1) _ _ (many-kept left g (n + 1) (mask / 2) (plus at 4) _ (keeps m at 4 (general g n) h)) (many-kept left g (n + 1) (mask / 2) at m h)
+    where
+      pick : (b : Bool) (x y : List ℕ) → K x → K y → K (cond b x y)
+      pick true x y p q = p
+      pick false x y p q = q
 
-  tested-long : (b : Bool) (t : Cpu) (n : ℕ) (m′ : List ℕ) (r : Reply) → length m′ ≡ length m → length (cond b (completed t n m′) (unchanged given r m) .memory) ≡ length m
-  tested-long b t n m′ r e = either-long b (completed t n m′) (unchanged given r m) e refl
+  either-kept : (b : Bool) (x y : Outcome) → K (x .memory) → K (y .memory) → K (cond b x y .memory)
+  either-kept true x y p q = p
+  either-kept false x y p q = q
 
-  entered-long : (s : Cpu) (level : Level) (vector pc : ℕ) → length (entered given s level vector pc m .memory) ≡ length m
-  unfolding entered
-  entered-long s level vector pc =
-      let t : Cpu = setSr (handling level (s .sr)) s in
-      let sp : ℕ = addressOf (t .r) 7 in
-      let place : ℕ = vectorPlace (s .vbr) vector in
-      either-long (inside m (pcPlace sp) 4) _ (unchanged given NotInside m)
-      (either-long (inside m (framePlace sp) 4) _ (unchanged given NotInside m)
-      (tested-long (inside m place 4) _ vector (framed m sp vector (s .sr) pc) NotInside (simp length-store))
-      refl)
-      refl
+  module _ (given : Cpu) (m : List ℕ) (h : K m) where
+    tested-kept : (b : Bool) (t : Cpu) (n : ℕ) (m′ : List ℕ) (r : Reply) → K m′ → K (cond b (completed t n m′) (unchanged given r m) .memory)
+    tested-kept b t n m′ r e = either-kept b (completed t n m′) (unchanged given r m) e h
 
-  left-long : (s : Cpu) → length (left given s m .memory) ≡ length m
-  unfolding left
-  left-long s =
-      let sp : ℕ = addressOf (s .r) 7 in
-      either-long (inside m sp 4) _ (unchanged given NotInside m) (tested-long (inside m (plus sp 4) 4) _ 0 m NotInside refl) refl
+    entered-kept : (s : Cpu) (level : Level) (vector pc : ℕ) → K (entered given s level vector pc m .memory)
+    unfolding entered
+    entered-kept s level vector pc =
+        let t : Cpu = setSr (handling level (s .sr)) s in
+        let sp : ℕ = addressOf (t .r) 7 in
+        let place : ℕ = vectorPlace (s .vbr) vector in
+        either-kept (inside m (pcPlace sp) 4) _ (unchanged given NotInside m)
+        (either-kept (inside m (framePlace sp) 4) _ (unchanged given NotInside m)
+        (tested-kept (inside m place 4) _ vector (framed m sp vector (s .sr) pc) NotInside (keeps _ _ 4 _ (keeps m _ 4 pc h)))
+        h)
+        h
 
-  act-long : (s : Cpu) (a : Action) → length (act given s a m .memory) ≡ length m
-  unfolding statusPushed
-  act-long s Nothing = refl
-  act-long s (Store a z v) = tested-long (inside m a (bytes z)) s 0 _ NotInside (length-store m a (bytes z) v)
-  act-long s (StoreMany mask a) = tested-long (manyInside 16 m mask a) s 0 _ NotInside (length-stored-many 16 (s .r) 0 mask a m)
-  act-long s (LoadMany mask a) = tested-long (manyInside 16 m mask a) _ 0 m NotInside refl
-  act-long s (Enter vector pc) = entered-long s Kept vector pc
-  act-long s Return = left-long s
-  act-long s (Status v) = refl
-  act-long s (Stop v) = refl
-  act-long s (PushStatus v) = tested-long (inside m (minus (addressOf (s .r) 7) 4) 4) _ 0 _ NotInside (length-store m _ 4 (s .sr))
-  act-long s Halt = refl
-  act-long s (Other v) = refl
-  act-long s (Accumulate i scale sub x y) = refl
-  act-long s (SetAcc i v) = refl
-  act-long s (SetExt i v) = refl
-  act-long s (SetMacsr v) = refl
-  act-long s (SetMask v) = refl
-  act-long s (CopyAcc from to) = refl
-  act-long s (ClearAcc i) = refl
-  act-long s (Refuse n) = refl
+    left-kept : (s : Cpu) → K (left given s m .memory)
+    unfolding left
+    left-kept s =
+        let sp : ℕ = addressOf (s .r) 7 in
+        either-kept (inside m sp 4) _ (unchanged given NotInside m) (tested-kept (inside m (plus sp 4) 4) _ 0 m NotInside h) h
 
-  pub step-long : length (step given m .memory) ≡ length m
-  unfolding step perform
-  step-long =
-      let c : Change = execute (given .r) (given .pc) (given .sr) (given .other) (given .emac) m in
-      either-long (tooLong m) (unchanged given TooLong m) _ refl
-      (either-long (admitted given) _ (unchanged given NotAdmitted m)
-      (either-long (given .stopped) (unchanged given Stopped m) _ refl (act-long (applied given c) (c .action)))
-      refl)
+    act-kept : (s : Cpu) (a : Action) → K (act given s a m .memory)
+    unfolding statusPushed
+    act-kept s Nothing = h
+    act-kept s (Store a z v) = tested-kept (inside m a (bytes z)) s 0 _ NotInside (keeps m a (bytes z) v h)
+    act-kept s (StoreMany mask a) = tested-kept (manyInside 16 m mask a) s 0 _ NotInside (many-kept 16 (s .r) 0 mask a m h)
+    act-kept s (LoadMany mask a) = tested-kept (manyInside 16 m mask a) _ 0 m NotInside h
+    act-kept s (Enter vector pc) = entered-kept s Kept vector pc
+    act-kept s Return = left-kept s
+    act-kept s (Status v) = h
+    act-kept s (Stop v) = h
+    act-kept s (PushStatus v) = tested-kept (inside m (minus (addressOf (s .r) 7) 4) 4) _ 0 _ NotInside (keeps m _ 4 (s .sr) h)
+    act-kept s Halt = h
+    act-kept s (Other v) = h
+    act-kept s (Accumulate i scale sub x y) = h
+    act-kept s (SetAcc i v) = h
+    act-kept s (SetExt i v) = h
+    act-kept s (SetMacsr v) = h
+    act-kept s (SetMask v) = h
+    act-kept s (CopyAcc from to) = h
+    act-kept s (ClearAcc i) = h
+    act-kept s (Refuse n) = h
 
-steps-long : (budget : ℕ) (s : Cpu) (m : List ℕ) → length (steps budget s m .memory) ≡ length m
-unfolding steps
-steps-long zero s m = refl
-steps-long (suc left) s m =
-    by (isDone (step s m .stepped .reply)) (steps left (step s m .stepped .cpu) (step s m .memory))
-    (steps-long left (step s m .stepped .cpu) (step s m .memory) ∙ step-long s m)
-  where
-    by : (b : Bool) (r : RunOutcome) → length (r .memory) ≡ length m
-        → length (cond b (afterOne r) (ended (step s m .stepped .reply) 0 (step s m .stepped .cpu) (step s m .memory)) .memory) ≡ length m
-    by true r a = a
-    by false r a = step-long s m
+    step-memory : K (step given m .memory)
+    unfolding step perform
+    step-memory =
+        let c : Change = execute (given .r) (given .pc) (given .sr) (given .other) (given .emac) m in
+        either-kept (tooLong m) (unchanged given TooLong m) _ h
+        (either-kept (admitted given) _ (unchanged given NotAdmitted m)
+        (either-kept (given .stopped) (unchanged given Stopped m) _ h (act-kept (applied given c) (c .action)))
+        h)
 
-run-long : (budget : ℕ) (s : Cpu) (m : List ℕ) → length (run budget s m .memory) ≡ length m
-unfolding run
-run-long budget s m = by (tooLong m) (admitted s)
-  where
-    by : (a b : Bool) → length (cond a (ended TooLong 0 s m) (cond b (steps budget s m) (ended NotAdmitted 0 s m)) .memory) ≡ length m
-    by true b = refl
-    by false true = steps-long budget s m
-    by false false = refl
+  steps-memory : (budget : ℕ) (s : Cpu) (m : List ℕ) → K m → K (steps budget s m .memory)
+  unfolding steps
+  steps-memory zero s m h = h
+  steps-memory (suc left) s m h =
+      by (isDone (step s m .stepped .reply)) (steps left (step s m .stepped .cpu) (step s m .memory))
+      (steps-memory left (step s m .stepped .cpu) (step s m .memory) (step-memory s m h))
+    where
+      by : (b : Bool) (r : RunOutcome) → K (r .memory) → K (cond b (afterOne r) (ended (step s m .stepped .reply) 0 (step s m .stepped .cpu) (step s m .memory)) .memory)
+      by true r a = a
+      by false r a = step-memory s m h
+
+  run-memory : (budget : ℕ) (s : Cpu) (m : List ℕ) → K m → K (run budget s m .memory)
+  unfolding run
+  run-memory budget s m h = by (tooLong m) (admitted s)
+    where
+      by : (a b : Bool) → K (cond a (ended TooLong 0 s m) (cond b (steps budget s m) (ended NotAdmitted 0 s m)) .memory)
+      by true b = h
+      by false true = steps-memory budget s m h
+      by false false = h
 
 -- ---- the tests before it
 
@@ -209,6 +222,7 @@ runs = record {
   too-long = run-too-long;
   not-admitted = run-not-admitted;
   that-many = that-many;
-  as-long = run-long;
+  as-long = λ budget s m. run-memory (λ m′. length m′ ≡ length m) (λ m′ a n v e. length-store m′ a n v ∙ e) budget s m refl;
+  still-bytes = λ budget s m. run-memory (λ m′. (j : ℕ) → getD m′ j 0 < 256) store-bytes budget s m;
   ends = λ budget s m h k. rw (run-steps budget s m h k) (steps-many budget s m .1);
 }
