@@ -1,16 +1,13 @@
--- What every instruction refuses, and which accesses its own reads are: those of `Accesses.reads`. A refusal of any body is that of an
--- access, reply 4, but for the words that are not carried. Assumes nothing.
-use Prim.Native.Nat.{ℕ, zero, suc, _+_, _-_, _/_, _%_, _≤_, _<_}
-use mathlib.Core.Path.{_≡_, refl, sym, ap, _∙_}
-use mathlib.Core.Bool.{Bool, true, false, cond, false≢true}
+-- What each body refuses, and which accesses its own reads are: line by line, those of Accesses. Assumes nothing.
+use Prim.Native.Nat.{ℕ, zero, suc, _+_, _-_, _/_, _%_}
+use mathlib.Core.Path.{_≡_, refl}
+use mathlib.Core.Bool.{Bool, true, false, cond}
 use mathlib.Core.List.{List, [], _∷_, _++_}
-use mathlib.Core.Logic.{_⊎_, ⊎-elim, inl, inr}
+use mathlib.Core.Logic.{_⊎_, inl, inr}
 use native.Mathlib.Omega.{arith}
-use native.Mathlib.Nat.{zero-add}
-use lib.Bits.{bitAnd, and-mask}
-use lib.Dec.{T, eqb, ltb, leb, leb→le, lit<}
+use lib.Dec.{eqb}
 use lib.ListN.{getD}
-use borrow.Author.Tests.{eqb-true, eq-eqb, ltb-false, le-ltb, lt-ltb}
+use borrow.Author.Tests.{eqb-true}
 use Rattle.manual.specs.declared.Size.{Size}
 use Rattle.manual.specs.declared.Size.the-variants.{Byte, Word, Long}
 use Rattle.manual.specs.declared.Emac.{Emac}
@@ -27,7 +24,7 @@ use Rattle.manual.specs.declared.Operand.{Operand}
 use Rattle.manual.specs.declared.Operand.the-variants.{Immediate}
 use Rattle.manual.specs.declared.Action.the-variants.{Nothing, ClearAcc}
 use Rattle.manual.specs.declared.Change.{Change}
-use Rattle.manual.specs.Word.{plus, minus, sizeOf, signExtended}
+use Rattle.manual.specs.Word.{plus, sizeOf, signExtended}
 use Rattle.manual.specs.Registers.{dataOf, addressOf}
 use Rattle.manual.specs.Memory.{inside, numberAt, load}
 use Rattle.manual.specs.Address.{operand, extension, source, locate, value, control}
@@ -35,11 +32,7 @@ use Rattle.manual.specs.Differences.{anySize}
 use Rattle.manual.specs.Emac.{has, readExt}
 use Rattle.manual.specs.Exceptions.{supervisor}
 use Rattle.manual.specs.Change.{done, store, acting, enterAfter, enter, illegal, privilege, notCarried, jump, push, reading, reaching}
-use Rattle.word.specs.TestLaws.{by-lt}
-use Rattle.rows.specs.TableLaws.{agree, allBelow, below}
-use Rattle.rows.specs.RowLaws.{rowOf-fits, rowOf-is, unique, in-line}
-use Rattle.instructions.specs.Rows.{value as rowValue, mask as rowMask, fixedBits, rowOf, placeIn}
-use Rattle.instructions.specs.Step.{instruction}
+use Rattle.instructions.specs.Rows.{placeIn}
 use Rattle.instructions.specs.Line0 as l0
 use Rattle.instructions.specs.Moves as moves
 use Rattle.instructions.specs.Line4 as l4
@@ -107,7 +100,7 @@ module _ (g : List ℕ) (at sr : ℕ) (m : List ℕ) (op : ℕ) where
   unfolding l0.bitByRegister
   by-register = bit-operation (plus at 2) _
 
-  line0-made : (n : ℕ) → Made m (acc.reads0 g at m op n) (l0.line0 n g at sr m op)
+  pub line0-made : (n : ℕ) → Made m (acc.reads0 g at m op n) (l0.line0 n g at sr m op)
   unfolding acc.reads0 l0.line0 l0.bitReverse l0.byteReverse l0.findFirstOne done
   line0-made n =
       all-made
@@ -157,15 +150,15 @@ module _ (g : List ℕ) (at sr : ℕ) (m : List ℕ) (op : ℕ) where
   unfolding moves.moveAddress done
   move-address z = source-only m g (plus at 2) op z _ (λ v. refl)
 
-  line1-made : (n : ℕ) → Made m (acc.reads1 g at m op n) (moves.line1 n g at sr m op)
+  pub line1-made : (n : ℕ) → Made m (acc.reads1 g at m op n) (moves.line1 n g at sr m op)
   unfolding acc.reads1 moves.line1
   line1-made n = all-made (row (from Byte) (moves.moveAddress Byte g at sr m op) (move-address Byte) end) (placeIn 14 n) _ _ (move-made Byte)
 
-  line2-made : (n : ℕ) → Made m (acc.reads2 g at m op n) (moves.line2 n g at sr m op)
+  pub line2-made : (n : ℕ) → Made m (acc.reads2 g at m op n) (moves.line2 n g at sr m op)
   unfolding acc.reads2 moves.line2
   line2-made n = all-made (row (from Long) (moves.moveAddress Long g at sr m op) (move-address Long) end) (placeIn 16 n) _ _ (move-made Long)
 
-  line3-made : (n : ℕ) → Made m (acc.reads3 g at m op n) (moves.line3 n g at sr m op)
+  pub line3-made : (n : ℕ) → Made m (acc.reads3 g at m op n) (moves.line3 n g at sr m op)
   unfolding acc.reads3 moves.line3
   line3-made n = all-made (row (from Word) (moves.moveAddress Word g at sr m op) (move-address Word) end) (placeIn 18 n) _ _ (move-made Word)
 
@@ -303,7 +296,7 @@ module _ (g : List ℕ) (at sr : ℕ) (m : List ℕ) (op : ℕ) where
       (source-only m g (plus at 4) op Long _
       (λ v. either-made m (eqb v 0) [] _ _ refl (either-made m (l4.divided _ (dataOf g (_ / 0x1000)) v .fits) [] _ _ refl refl))))
 
-  line4-made : (other n : ℕ) → ((20 + placeIn 20 n ≡ 24) ⊎ (20 + placeIn 20 n ≡ 25)) ⊎ Made m (acc.reads4 g at m op n) (l4.line4 n g at sr other m op)
+  pub line4-made : (other n : ℕ) → ((20 + placeIn 20 n ≡ 24) ⊎ (20 + placeIn 20 n ≡ 25)) ⊎ Made m (acc.reads4 g at m op n) (l4.line4 n g at sr other m op)
   unfolding acc.reads4 l4.line4 l4.nothing l4.halt l4.trap l4.fromCcr l4.swap l4.extendByte l4.extendToWord l4.extendToLong l4.saturate l4.negate l4.negateExtended l4.complement jump done acting enter enterAfter
   line4-made other n =
       listed {P = λ k. (k ≡ 24) ⊎ (k ≡ 25)}
@@ -363,7 +356,7 @@ module _ (g : List ℕ) (at sr : ℕ) (m : List ℕ) (op : ℕ) where
   unfolding l9.toAddress done
   to-address add z = source-only m g (plus at 2) op z _ (λ v. refl)
 
-  sums-made : (first : ℕ) (add : Bool) (n : ℕ) → Made m (acc.reads9D g at m op first n) (l9.sums first add n g at sr m op)
+  pub sums-made : (first : ℕ) (add : Bool) (n : ℕ) → Made m (acc.reads9D g at m op first n) (l9.sums first add n g at sr m op)
   unfolding acc.reads9D l9.sums l9.withX l9.toMemory done
   sums-made first add n =
       all-made
@@ -383,7 +376,7 @@ module _ (g : List ℕ) (at sr : ℕ) (m : List ℕ) (op : ℕ) where
   unfolding l5.quick l5.quickData done
   quick-made = data-or (plus at 2) (anySize op) _ _ refl (to-place _ _ _)
 
-  line5-made : (n : ℕ) → Made m (acc.reads5 g at m op n) (l5.line5 n g at sr m op)
+  pub line5-made : (n : ℕ) → Made m (acc.reads5 g at m op n) (l5.line5 n g at sr m op)
   unfolding acc.reads5 l5.line5 l5.skip l5.quickAddress l5.setByCondition jump done
   line5-made n =
       all-made
@@ -437,7 +430,7 @@ module _ (g : List ℕ) (at sr : ℕ) (m : List ℕ) (op : ℕ) where
   unfolding l6.bcc
   bcc-made = branch-made _ (λ d. jump-made _)
 
-  line6-made : (n : ℕ) → Made m (acc.reads6 g at m op n) (l6.line6 n g at sr m op)
+  pub line6-made : (n : ℕ) → Made m (acc.reads6 g at m op n) (l6.line6 n g at sr m op)
   unfolding acc.reads6 l6.line6
   line6-made n =
       all-made (row branch-words (l6.bra at sr m op) bra-made (row branch-words (l6.bsr g at sr m op) bsr-made end)) (placeIn 69 n) branch-words _ bcc-made
@@ -450,7 +443,7 @@ module _ (g : List ℕ) (at sr : ℕ) (m : List ℕ) (op : ℕ) where
   unfolding l7.moveZero done
   move-zero = source-only m g (plus at 2) op (sizeOf (op / 64 % 2)) _ (λ v. refl)
 
-  line7-made : (n : ℕ) → Made m (acc.reads7 g at m op n) (l7.line7 n g at sr m op)
+  pub line7-made : (n : ℕ) → Made m (acc.reads7 g at m op n) (l7.line7 n g at sr m op)
   unfolding acc.reads7 l7.line7 l7.moveQuick done
   line7-made n =
       let l : List Access = from (sizeOf (op / 64 % 2)) in
@@ -472,7 +465,7 @@ module _ (g : List ℕ) (at sr : ℕ) (m : List ℕ) (op : ℕ) where
       let z : Size = anySize op in
       target-made m g (plus at 2) op z _ (λ v found. put-found m g _ _ _ _ (locate g m (plus at 2) (named op) z) z _ found)
 
-  lineB-made : (n : ℕ) → Made m (acc.readsB g at m op n) (lb.lineB n g at sr m op)
+  pub lineB-made : (n : ℕ) → Made m (acc.readsB g at m op n) (lb.lineB n g at sr m op)
   unfolding acc.readsB lb.lineB
   lineB-made n =
       all-made
@@ -490,7 +483,7 @@ module _ (g : List ℕ) (at sr : ℕ) (m : List ℕ) (op : ℕ) where
   unfolding lc.multiplyWords done
   multiply-words signs = source-only m g (plus at 2) op Word _ (λ v. refl)
 
-  lineC-made : (n : ℕ) → Made m (acc.readsC g at m op n) (lc.lineC n g at sr m op)
+  pub lineC-made : (n : ℕ) → Made m (acc.readsC g at m op n) (lc.lineC n g at sr m op)
   unfolding acc.readsC lc.lineC
   lineC-made n =
       all-made
@@ -501,7 +494,7 @@ module _ (g : List ℕ) (at sr : ℕ) (m : List ℕ) (op : ℕ) where
       (placeIn 103 n) (from (anySize op)) _ (logic-to-place And)
 
   -- a shift, and every other word of the line, reads nothing
-  lineE-made : (n : ℕ) → Made m none (le.lineE n g at sr op)
+  pub lineE-made : (n : ℕ) → Made m none (le.lineE n g at sr op)
   unfolding le.lineE le.shift done
   lineE-made n = by (placeIn 117 n)
     where
@@ -529,7 +522,7 @@ module _ (g : List ℕ) (at sr : ℕ) (m : List ℕ) (op : ℕ) where
       let z : Size = sizeOf (op / 64) in
       locating-made m (extensionOf (plus at 2) op z) (locate g m (plus at 2) (named op) z) _ (locate-made m g (plus at 2) (named op) z) refl
 
-  lineF-made : (n : ℕ) → Made m (acc.readsF g at m op n) (lf.lineF n g at sr m op)
+  pub lineF-made : (n : ℕ) → Made m (acc.readsF g at m op n) (lf.lineF n g at sr m op)
   unfolding acc.readsF lf.lineF enter enterAfter acting
   lineF-made n =
       all-made
@@ -568,7 +561,7 @@ module _ (g : List ℕ) (at sr : ℕ) (m : List ℕ) (op : ℕ) where
   unfolding la.unassigned enterAfter acting
   unassigned-made = source-only m g (plus at 2) op Long _ (λ v. refl)
 
-  lineA-made : (e : Emac) (n : ℕ) → (86 + placeIn 86 n ≡ 97) ⊎ Made m (acc.readsA g at m op (e .mask) n) (la.lineA n g at sr e m op)
+  pub lineA-made : (e : Emac) (n : ℕ) → (86 + placeIn 86 n ≡ 97) ⊎ Made m (acc.readsA g at m op (e .mask) n) (la.lineA n g at sr e m op)
   unfolding acc.readsA la.lineA la.macsrToCcr la.copy la.toGeneral done acting
   lineA-made e n =
       listed {P = λ k. k ≡ 97}
@@ -586,245 +579,3 @@ module _ (g : List ℕ) (at sr : ℕ) (m : List ℕ) (op : ℕ) where
       (out (acc.macReads g at m op (e .mask)) (la.mac g at sr (e .mask) m op) refl
       end))))))))))))
       (placeIn 86 n) (from Long) _ unassigned-made
-
--- ---- MAC and MSAC: a word operand is not carried, in the modes that an instruction of the line has
-
-load-is : (b : Bool) (m : List ℕ) (a : ℕ) → inside m a 2 ≡ b → load m a Word ≡ cond b (Value (numberAt m a Word)) (NoValue Out)
-unfolding load
-load-is b m a h = rw h
-
-abbrev pub MacWord : ℕ → List ℕ → ℕ → Type 0
-MacWord at m op = (op / 8 % 8 ≤ 5) × ((inside m (plus at 2) 2 ≡ true) × (numberAt m (plus at 2) Word / 0x800 % 2 ≡ 0))
-
-module _ (g : List ℕ) (at sr mask : ℕ) (m : List ℕ) (op : ℕ) where
-  abbrev second : ℕ
-  second = numberAt m (plus at 2) Word
-
-  abbrev base : ℕ
-  base = addressOf g op
-
-  mac-load : (next a : ℕ) → Made m (longAt (la.loadAddress mask second a)) (la.macLoad g next sr mask m op second a)
-  unfolding la.macLoad
-  mac-load next a = load-made m (la.loadAddress mask second a) Long [] _ refl
-
-  -- what the parallel load reads after the second word
-  abbrev after : List Access
-  after = cond (ltb 5 (op / 8 % 8)) none (cond (eqb (second / 0x800 % 2) 0) none (acc.loadReads g at m op mask second))
-
-  load-reads : Made m (acc.loadReads g at m op mask second)
-      (cond (eqb (op / 8 % 8) 5)
-      (reading (load m (plus at 4) Word) λ d. la.macLoad g (plus at 6) sr mask m op second (plus base (signExtended Word d)))
-      (la.macLoad g (plus at 4) sr mask m op second (cond (eqb (op / 8 % 8) 4) (minus base 4) base)))
-  load-reads =
-      let displaced : ℕ = plus base (signExtended Word (numberAt m (plus at 4) Word)) in
-      let plain : ℕ = cond (eqb (op / 8 % 8) 4) (minus base 4) base in
-      cond-made m (eqb (op / 8 % 8) 5) (wordAt (plus at 4) ++ longAt (la.loadAddress mask second displaced)) (longAt (la.loadAddress mask second plain)) _ _
-      (load-made m (plus at 4) Word (longAt (la.loadAddress mask second displaced)) _ (mac-load _ displaced))
-      (mac-load _ plain)
-
-  -- a word operand, or one whose accesses those are
-  abbrev WordOr : List Access → Change → Type 0
-  WordOr l c = ((op / 8 % 8 ≤ 5) × (second / 0x800 % 2 ≡ 0)) ⊎ Made m l c
-
-  with-load : WordOr after (la.macWithLoad g at sr mask m op second)
-  unfolding la.macWithLoad enter enterAfter acting
-  with-load = by (ltb 5 (op / 8 % 8)) (eqb (second / 0x800 % 2) 0) refl refl _ load-reads
-    where
-      by : (a b : Bool) → ltb 5 (op / 8 % 8) ≡ a → eqb (second / 0x800 % 2) 0 ≡ b → (rest : Change) → Made m (acc.loadReads g at m op mask second) rest
-          → WordOr (cond a none (cond b none (acc.loadReads g at m op mask second))) (cond a (enter sr 10 at) (cond b notCarried rest))
-      by true b ea eb rest h = inr refl
-      by false true ea eb rest h = inl (ltb-false _ _ ea, eqb-true _ _ eb)
-      by false false ea eb rest h = inr h
-
-  load-refused : (w : ℕ) → op / 8 % 8 ≤ 5 → w / 0x800 % 2 ≡ 0 → la.macWithLoad g at sr mask m op w ≡ notCarried
-  unfolding la.macWithLoad
-  load-refused w h e = rw (le-ltb 5 (op / 8 % 8) h, eq-eqb _ _ e)
-
-  mac-made : MacWord at m op ⊎ Made m (acc.macReads g at m op mask) (la.mac g at sr mask m op)
-  unfolding la.mac la.macRegisters acting
-  mac-made = by (inside m (plus at 2) 2) refl
-    where
-      rest : List Access
-      rest = cond (eqb (op / 16 % 4) 0) none after
-
-      registers : (a b : Bool) → eqb (op / 16 % 4) 0 ≡ a → eqb (second / 0x800 % 2) 0 ≡ b
-          → WordOr (cond a none after) (cond a (cond b notCarried (la.macRegisters g at sr op second)) (la.macWithLoad g at sr mask m op second))
-      registers true true ea eb = let e : op / 16 % 4 ≡ 0 = eqb-true _ _ ea in inl (omega arith, eqb-true _ _ eb)
-      registers true false ea eb = inr refl
-      registers false b ea eb = with-load
-
-      by : (b : Bool) → inside m (plus at 2) 2 ≡ b → MacWord at m op ⊎ Made m (acc.macReads g at m op mask) (la.mac g at sr mask m op)
-      by true i = ⊎-elim (λ h. inl (h .0, (i, h .1))) (λ h. inr (load-made m (plus at 2) Word rest _ h)) (registers _ _ refl refl)
-      by false i = inr (rw (load-is false m (plus at 2) i, i) (refused-4 Out))
-
-  pub mac-refused : MacWord at m op → la.mac g at sr mask m op ≡ notCarried
-  unfolding la.mac
-  mac-refused h = rw (load-is true m (plus at 2) (h .1 .0)) (by (eqb (op / 16 % 4) 0))
-    where
-      by : (a : Bool)
-          → cond a (cond (eqb (second / 0x800 % 2) 0) notCarried (la.macRegisters g at sr op second)) (la.macWithLoad g at sr mask m op second) ≡ notCarried
-      by true = rw (eq-eqb _ _ (h .1 .1))
-      by false = load-refused second (h .0) (h .1 .1)
-
-  -- its second word is read then, and no more
-  mac-inside : MacWord at m op → missed m (acc.macReads g at m op mask) ≡ false
-  mac-inside h = rw (h .1 .0) (by (eqb (op / 16 % 4) 0))
-    where
-      by : (a : Bool) → missed m (cond a none after) ≡ false
-      by true = refl
-      by false = rw (le-ltb 5 (op / 8 % 8) (h .0), eq-eqb (second / 0x800 % 2) 0 (h .1 .1))
-
--- ---- the words that are not carried, by their rows
-
--- the row of a word of a line, by its place
-row-at : (first n k : ℕ) → k < 100 → first + placeIn first n ≡ first + k → n ≡ first + k
-unfolding placeIn
-row-at first n k h e = by-lt n first
-    (λ l. absurd (none (rw (lt-ltb n first l) at e)))
-    (λ l. some l (rw (le-ltb n first l) at e))
-  where
-    none : first + 124 ≡ first + k → ⊥
-    none e = omega arith
-
-    some : first ≤ n → first + (n - first) ≡ first + k → n ≡ first + k
-    some l e = omega arith
-
-module _ (op : ℕ) (small : op < 0x1_0000) where
-  fits-row : (n : ℕ) → rowOf op ≡ n → bitAnd op (rowMask n) ≡ rowValue n
-  fits-row n e = rw (← e) (rowOf-fits op small)
-
-  whole-word : (v : ℕ) → bitAnd op 0xFFFF ≡ v → op ≡ v
-  whole-word v e = omega (arith, sym (and-mask op 16) ∙ e)
-
-  pub movec-read : rowOf op ≡ 24 → op ≡ 0x4E7A
-  movec-read e = whole-word 0x4E7A (fits-row 24 e)
-
-  pub movec-write : rowOf op ≡ 25 → op ≡ 0x4E7B
-  movec-write e = whole-word 0x4E7B (fits-row 25 e)
-
-  pub mac-fits : rowOf op ≡ 97 → bitAnd op 0xF100 ≡ 0xA000
-  mac-fits e = fits-row 97 e
-
--- no row that fits a word of the row MAC, A000/F100, has more fixed bits
-abbrev asMac : ℕ → Bool
-asMac q = elim (eqb (bitAnd (rowValue q) 0xF100) (bitAnd 0xA000 (rowMask q))) [ true ↦ leb (fixedBits q) (fixedBits 97) | false ↦ true ]
-
-most-mac : T (allBelow asMac 124)
-most-mac = tt
-
-if-so : (b c : Bool) → b ≡ true → T (elim b [ true ↦ c | false ↦ true ]) → T c
-if-so true c e t = t
-if-so false c e t = absurd (false≢true e)
-
-pub mac-row : (op : ℕ) → op < 0x1_0000 → bitAnd op 0xF100 ≡ 0xA000 → rowOf op ≡ 97
-mac-row op small f =
-    unique op (rowOf op) 97 (rowOf-is op small)
-    (record { isRow = lit< tt; fitting = f; most = λ q l h. at-most q (agree op (rowValue q) (rowMask q) 0xA000 0xF100 h f) (below asMac 124 most-mac q l) })
-  where
-    at-most : (q : ℕ) → bitAnd (rowValue q) 0xF100 ≡ bitAnd 0xA000 (rowMask q) → T (asMac q) → fixedBits q ≤ fixedBits 97
-    at-most q e t = leb→le _ _ (if-so _ _ (eq-eqb _ _ e) t)
-
--- ---- every instruction
-
--- line 8, the rows MOVEC_READ and MOVEC_WRITE, and the row MAC with a word operand
-abbrev pub Excused : ℕ → List ℕ → ℕ → Type 0
-Excused at m op = (op / 0x1000 % 16 ≡ 8) ⊎ (((rowOf op ≡ 24) ⊎ (rowOf op ≡ 25)) ⊎ ((rowOf op ≡ 97) × MacWord at m op))
-
-module _ (g : List ℕ) (at sr other : ℕ) (e : Emac) (m : List ℕ) (op : ℕ) where
-  abbrev its-reads : List Access
-  its-reads = acc.reads g at m op (e .mask)
-
-  abbrev its-change : Change
-  its-change = instruction g at sr other e m op
-
-  lines : ((0 + op / 0x1000 % 16 ≡ 4) ⊎ ((0 + op / 0x1000 % 16 ≡ 8) ⊎ (0 + op / 0x1000 % 16 ≡ 10))) ⊎ Made m its-reads its-change
-  unfolding acc.reads instruction
-  lines =
-      let n : ℕ = rowOf op in
-      listed {P = λ k. (k ≡ 4) ⊎ ((k ≡ 8) ⊎ (k ≡ 10))}
-      (row (acc.reads0 g at m op n) (l0.line0 n g at sr m op) (line0-made g at sr m op n)
-      (row (acc.reads1 g at m op n) (moves.line1 n g at sr m op) (line1-made g at sr m op n)
-      (row (acc.reads2 g at m op n) (moves.line2 n g at sr m op) (line2-made g at sr m op n)
-      (row (acc.reads3 g at m op n) (moves.line3 n g at sr m op) (line3-made g at sr m op n)
-      (out (acc.reads4 g at m op n) (l4.line4 n g at sr other m op) (inl refl)
-      (row (acc.reads5 g at m op n) (l5.line5 n g at sr m op) (line5-made g at sr m op n)
-      (row (acc.reads6 g at m op n) (l6.line6 n g at sr m op) (line6-made g at sr m op n)
-      (row (acc.reads7 g at m op n) (l7.line7 n g at sr m op) (line7-made g at sr m op n)
-      (out none notCarried (inr (inl refl))
-      (row (acc.reads9D g at m op 76 n) (l9.line9 n g at sr m op) (sums-made g at sr m op 76 false n)
-      (out (acc.readsA g at m op (e .mask) n) (la.lineA n g at sr e m op) (inr (inr refl))
-      (row (acc.readsB g at m op n) (lb.lineB n g at sr m op) (lineB-made g at sr m op n)
-      (row (acc.readsC g at m op n) (lc.lineC n g at sr m op) (lineC-made g at sr m op n)
-      (row (acc.reads9D g at m op 107 n) (l9.lineD n g at sr m op) (sums-made g at sr m op 107 true n)
-      (row none (le.lineE n g at sr op) (lineE-made g at sr m op n)
-      end)))))))))))))))
-      (op / 0x1000 % 16) (acc.readsF g at m op n) (lf.lineF n g at sr m op) (lineF-made g at sr m op n)
-
-  in-line-4 : op / 0x1000 % 16 ≡ 4 → (its-change ≡ l4.line4 (rowOf op) g at sr other m op) × (its-reads ≡ acc.reads4 g at m op (rowOf op))
-  unfolding acc.reads instruction
-  in-line-4 h = (rw h, rw h)
-
-  in-line-8 : op / 0x1000 % 16 ≡ 8 → (its-change ≡ notCarried) × (its-reads ≡ none)
-  unfolding acc.reads instruction
-  in-line-8 h = (rw h, rw h)
-
-  in-line-a : op / 0x1000 % 16 ≡ 10 → (its-change ≡ la.lineA (rowOf op) g at sr e m op) × (its-reads ≡ acc.readsA g at m op (e .mask) (rowOf op))
-  unfolding acc.reads instruction
-  in-line-a h = (rw h, rw h)
-
-  movec-at : (rowOf op ≡ 24) ⊎ (rowOf op ≡ 25) → (l4.line4 (rowOf op) g at sr other m op ≡ notCarried) × (acc.reads4 g at m op (rowOf op) ≡ none)
-  unfolding acc.reads4 l4.line4 placeIn
-  movec-at (inl h) = (rw h, rw h)
-  movec-at (inr h) = (rw h, rw h)
-
-  at-mac : rowOf op ≡ 97 → (la.lineA (rowOf op) g at sr e m op ≡ la.mac g at sr (e .mask) m op) × (acc.readsA g at m op (e .mask) (rowOf op) ≡ acc.macReads g at m op (e .mask))
-  unfolding acc.readsA la.lineA placeIn
-  at-mac h = (rw h, rw h)
-
-  -- the word is one of those and not carried, and its reads are inside; or the instruction refuses where one of its reads is not inside
-  abbrev Either : Type 0
-  Either = (Excused at m op × ((its-change ≡ notCarried) × (missed m its-reads ≡ false))) ⊎ Made m its-reads its-change
-
-  line-4 : op / 0x1000 % 16 ≡ 4 → Either
-  line-4 h = ⊎-elim not-carried (λ f. inr (rw (in-line-4 h .0, in-line-4 h .1) f)) (line4-made g at sr m op other (rowOf op))
-    where
-      not-carried : (20 + placeIn 20 (rowOf op) ≡ 24) ⊎ (20 + placeIn 20 (rowOf op) ≡ 25) → Either
-      not-carried k =
-          let r : (rowOf op ≡ 24) ⊎ (rowOf op ≡ 25) = ⊎-elim (λ x. inl (row-at 20 (rowOf op) 4 (lit< tt) x)) (λ x. inr (row-at 20 (rowOf op) 5 (lit< tt) x)) k in
-          inl (inr (inl r), (in-line-4 h .0 ∙ movec-at r .0, ap (missed m) (in-line-4 h .1 ∙ movec-at r .1)))
-
-  line-a : op / 0x1000 % 16 ≡ 10 → Either
-  line-a h = ⊎-elim row-mac (λ f. inr (rw (in-line-a h .0, in-line-a h .1) f)) (lineA-made g at sr m op e (rowOf op))
-    where
-      row-mac : 86 + placeIn 86 (rowOf op) ≡ 97 → Either
-      row-mac k =
-          let r : rowOf op ≡ 97 = row-at 86 (rowOf op) 11 (lit< tt) k in
-          let c : its-change ≡ la.mac g at sr (e .mask) m op = in-line-a h .0 ∙ at-mac r .0 in
-          let l : its-reads ≡ acc.macReads g at m op (e .mask) = in-line-a h .1 ∙ at-mac r .1 in
-          ⊎-elim
-          (λ w. inl (inr (inr (r, w)), (c ∙ mac-refused g at sr (e .mask) m op w, ap (missed m) l ∙ mac-inside g at sr (e .mask) m op w)))
-          (λ f. inr (rw (c, l) f))
-          (mac-made g at sr (e .mask) m op)
-
-  pub instruction-made : Either
-  instruction-made =
-      ⊎-elim
-      (⊎-elim (λ h. line-4 (rw zero-add at h)) (⊎-elim (λ h. in-8 (rw zero-add at h)) (λ h. line-a (rw zero-add at h))))
-      (λ f. inr f)
-      lines
-    where
-      in-8 : op / 0x1000 % 16 ≡ 8 → Either
-      in-8 h = inl (inl h, (in-line-8 h .0, ap (missed m) (in-line-8 h .1)))
-
-  movec-line : op < 0x1_0000 → (rowOf op ≡ 24) ⊎ (rowOf op ≡ 25) → op / 0x1000 % 16 ≡ 4
-  movec-line small (inl h) = omega (arith, movec-read op small h)
-  movec-line small (inr h) = omega (arith, movec-write op small h)
-
-  mac-line : op < 0x1_0000 → rowOf op ≡ 97 → op / 0x1000 % 16 ≡ 10
-  mac-line small h = omega (arith, in-line op 97 small (lit< tt) (mac-fits op small h) .0)
-
-  pub excused-refused : op < 0x1_0000 → Excused at m op → its-change ≡ notCarried
-  excused-refused small (inl h) = in-line-8 h .0
-  excused-refused small (inr (inl h)) = in-line-4 (movec-line small h) .0 ∙ movec-at h .0
-  excused-refused small (inr (inr h)) =
-      in-line-a (mac-line small (h .0)) .0 ∙ at-mac (h .0) .0 ∙ mac-refused g at sr (e .mask) m op (h .1)

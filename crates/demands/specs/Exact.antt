@@ -13,22 +13,18 @@
 -- Order: 9 when under five bytes, 8, 9, then 1, 2, 6, 7, 3, and then in the order the step comes to them. Assumes nothing.
 use Prim.Native.Nat.{ℕ, _+_, _/_, _%_, _≤_, _<_}
 use mathlib.Core.Path.{_≡_, refl, sym, ap, _∙_}
-use mathlib.Core.Bool.{Bool, true, false, cond, _&&_, false≢true}
+use mathlib.Core.Bool.{Bool, true, false, cond, false≢true}
 use mathlib.Core.List.{List, [], _∷_}
 use mathlib.Core.Logic.{_↔_, _⊎_, ⊎-elim, inl, inr}
 use native.Mathlib.Omega.{arith}
 use lib.Bits.{bitAnd}
-use lib.Dec.{eqb, ltb, leb}
+use lib.Dec.{ltb, leb}
 use lib.ListN.{length, getD}
 use Rattle.manual.specs.declared.Cpu.{Cpu}
-use Rattle.manual.specs.declared.Emac.{Emac}
 use Rattle.manual.specs.declared.Level.{Level}
 use Rattle.manual.specs.declared.Level.the-variants.{Kept, To}
 use Rattle.manual.specs.declared.Size.the-variants.{Word, Long}
-use Rattle.manual.specs.declared.Reply.{Reply}
-use Rattle.manual.specs.declared.Reply.the-variants.{Done, TooLong, NotAdmitted, Stopped, NotInside, OutOfRange, Masked, WrongVersion, WrongLength}
-use Rattle.manual.specs.declared.Answer.{Answer}
-use Rattle.manual.specs.declared.Told.{Told}
+use Rattle.manual.specs.declared.Reply.the-variants.{Done, TooLong, NotAdmitted, Stopped, NotInside, OutOfRange, Masked}
 use Rattle.manual.specs.declared.Popped.{Popped}
 use Rattle.manual.specs.declared.Change.{Change}
 use Rattle.manual.specs.Word.{plus, minus}
@@ -37,11 +33,10 @@ use Rattle.manual.specs.Memory.{inside, valueAt, numberAt, stored}
 use Rattle.manual.specs.Change.{notCarried}
 use Rattle.manual.specs.Reply.{numberOf, Outcome, completed, unchanged, refusal}
 use Rattle.manual.specs.Admitted.{admitted, tooLong, checked}
-use Rattle.manual.specs.Exceptions.{maskOf, setSr, entered, left, levelTaken, masked, exception, interrupt, rte, push32, notPopped, pop32, setSrCall, told, ipl, supervisorCall}
-use Rattle.manual.specs.Emac.{setMacsr}
-use Rattle.manual.specs.EmacCalls.{accTold, doneWith, accChanged, accGetCall, accSetCall, accPhysCall, setAccPhysCall, setMacsrCall}
-use Rattle.manual.specs.Block.{saysAdmitted, stateAt, notRead, readBlock, blockOf, Stored, storeBlock}
-use Rattle.manual.specs.Image.{imageMemory, imageState, imageReply}
+use Rattle.manual.specs.Exceptions.{maskOf, entered, left, levelTaken, masked, exception, interrupt, rte, push32, notPopped, pop32, setSrCall, ipl, supervisorCall}
+use Rattle.manual.specs.EmacCalls.{accGetCall, accSetCall, accPhysCall, setAccPhysCall, setMacsrCall}
+use Rattle.manual.specs.Block.{saysAdmitted, readBlock, storeBlock}
+use Rattle.manual.specs.Image.{imageState, imageReply, loadImage}
 use Rattle.instructions.specs.Rows.{rowOf}
 use Rattle.instructions.specs.Perform.{perform}
 use Rattle.instructions.specs.Step.{instruction, step}
@@ -52,9 +47,11 @@ use Rattle.demands.specs.Runs.{Ends, runs}
 use Rattle.demands.specs.Admits.{admits}
 use Rattle.demands.specs.Accesses.{Access, access, Outside, SomeOutside, reads, entryAt, returnAt, leaves, accesses}
 use Rattle.demands.specs.PartLaws.{missed, missed-some, missed-both, Made}
-use Rattle.demands.specs.BodyLaws.{Excused, instruction-made, excused-refused, movec-read, movec-write, mac-fits, mac-row}
+use Rattle.demands.specs.InstructionLaws.{Excused, instruction-made, excused-refused, movec-read, movec-write, mac-fits, mac-row}
 use Rattle.demands.specs.StepLaws.{doing, fetched, not-fetched, perform-refuse}
 use Rattle.demands.specs.ReplyLaws as laws
+use Rattle.demands.specs.ReplyLaws.{OneOf}
+use Rattle.demands.specs.CallReplies.{set-sr-number, told-number, not-2, zero-or-2, acc-2, acc-6, acc-of, acc-get-number, acc-phys-number, acc-set-number, set-acc-phys-number, set-macsr-number, of-read-9, of-read-8, of-read-2, read-of, of-store-9, of-store-2, store-of, of-image-9, of-image-8, of-image-2, of-load-9, of-load, load-of}
 
 -- the number of an outcome's reply
 abbrev pub numbered : Outcome → ℕ
@@ -166,10 +163,31 @@ pub record Reply8And9 : Type 0 where
       → let l : ℕ = valueAt f 1 4 in
       (numberOf (imageReply f) ≡ 2)
       ↔ ((5 ≤ length f) × ((valueAt f 0 1 ≡ 1) × (((14 ≤ l) × ((l ≤ 49166) × (length f ≡ 5 + l))) × (admitted (imageState f) ≡ false))))
+  -- and it is read into a memory of 49,152 bytes
+  pub load-image-9 : (f m : List ℕ) → (numberOf (loadImage f m .reply) ≡ 9) ↔ ((length m ≡ 49152 → ⊥) ⊎ ((length m ≡ 49152) × (numberOf (imageReply f) ≡ 9)))
+  pub load-image-8 : (f m : List ℕ) → (numberOf (loadImage f m .reply) ≡ 8) ↔ ((length m ≡ 49152) × (numberOf (imageReply f) ≡ 8))
+  pub load-image-2 : (f m : List ℕ) → (numberOf (loadImage f m .reply) ≡ 2) ↔ ((length m ≡ 49152) × (numberOf (imageReply f) ≡ 2))
 
--- no other reply
+-- a call gives no other reply than these, so 0 exactly where it gives none of the others
 pub record NoOthers : Type 0 where
-  pub step-to-5 : (s : Cpu) (m : List ℕ) → numbered (step s m) ≤ 5
+  pub step-of : (s : Cpu) (m : List ℕ) → OneOf (0 ∷ 1 ∷ 2 ∷ 3 ∷ 4 ∷ 5 ∷ []) (numbered (step s m))
+  pub run-of : (budget : ℕ) (s : Cpu) (m : List ℕ) → OneOf (0 ∷ 1 ∷ 2 ∷ 3 ∷ 4 ∷ 5 ∷ []) (numberOf (run budget s m .ran .reply))
+  pub exception-of : (s : Cpu) (m : List ℕ) (vector pc : ℕ) (level : Level) → OneOf (0 ∷ 1 ∷ 2 ∷ 4 ∷ 6 ∷ []) (numbered (exception s m vector pc level))
+  pub interrupt-of : (s : Cpu) (m : List ℕ) (vector level : ℕ) → OneOf (0 ∷ 1 ∷ 2 ∷ 4 ∷ 6 ∷ 7 ∷ []) (numbered (interrupt s m vector level))
+  pub rte-of : (s : Cpu) (m : List ℕ) → OneOf (0 ∷ 1 ∷ 2 ∷ 4 ∷ []) (numbered (rte s m))
+  pub push32-of : (s : Cpu) (m : List ℕ) (v : ℕ) → OneOf (0 ∷ 1 ∷ 2 ∷ 4 ∷ []) (numbered (push32 s m v))
+  pub pop32-of : (s : Cpu) (m : List ℕ) → OneOf (0 ∷ 1 ∷ 2 ∷ 4 ∷ []) (numberOf (pop32 s m .reply))
+  pub set-sr-of : (s : Cpu) (v : ℕ) → OneOf (0 ∷ 2 ∷ []) (numberOf (setSrCall s v .reply))
+  pub ipl-of : (s : Cpu) → OneOf (0 ∷ 2 ∷ []) (numberOf (ipl s .reply))
+  pub supervisor-of : (s : Cpu) → OneOf (0 ∷ 2 ∷ []) (numberOf (supervisorCall s .reply))
+  pub acc-get-of : (s : Cpu) (i : ℕ) → OneOf (0 ∷ 2 ∷ 6 ∷ []) (numberOf (accGetCall s i .reply))
+  pub acc-phys-of : (s : Cpu) (i : ℕ) → OneOf (0 ∷ 2 ∷ 6 ∷ []) (numberOf (accPhysCall s i .reply))
+  pub acc-set-of : (s : Cpu) (i v : ℕ) → OneOf (0 ∷ 2 ∷ 6 ∷ []) (numberOf (accSetCall s i v .reply))
+  pub set-acc-phys-of : (s : Cpu) (i acc ext : ℕ) → OneOf (0 ∷ 2 ∷ 6 ∷ []) (numberOf (setAccPhysCall s i acc ext .reply))
+  pub set-macsr-of : (s : Cpu) (v : ℕ) → OneOf (0 ∷ 2 ∷ []) (numberOf (setMacsrCall s v .reply))
+  pub read-block-of : (b : List ℕ) → OneOf (0 ∷ 2 ∷ 8 ∷ 9 ∷ []) (numberOf (readBlock b .reply))
+  pub store-block-of : (s : Cpu) (b : List ℕ) → OneOf (0 ∷ 2 ∷ 9 ∷ []) (numberOf (storeBlock s b .reply))
+  pub load-image-of : (f m : List ℕ) → OneOf (0 ∷ 2 ∷ 8 ∷ 9 ∷ []) (numberOf (loadImage f m .reply))
 
 -- ---- the words that are not carried
 
@@ -195,9 +213,6 @@ kinds m at op small = (there, back)
     back (movec (inl h)) = inr (inl (inl (read-row op h)))
     back (movec (inr h)) = inr (inl (inr (write-row op h)))
     back (word-operand f mode i w) = inr (inr (mac-row op small f, (mode, (i, w))))
-
-few : (s : Cpu) (n : Reply) (m : List ℕ) → numberOf n ≤ 5 → numbered (unchanged s n m) ≤ 5
-few s n m h = rw (laws.number-same s n m) h
 
 -- ---- a step
 
@@ -327,22 +342,18 @@ module _ (s : Cpu) (m : List ℕ) where
       (laws.iff-and laws.iff-same
       (rw inner-number (laws.iff-trans (laws.later 4 (numbered acted) 3 (λ h. omega arith) (s .stopped)) (laws.iff-and laws.iff-same acted-4))))
 
-  step-number : numbered (step s m) ≤ 5
-  unfolding step numberOf
-  step-number = by (tooLong m) (admitted s) (s .stopped)
-    where
-      small : numbered acted ≤ 5
-      small = ⊎-elim (λ h. rw h (either (missed m (accesses s m)))) (λ h. omega (arith, h .0)) acted-kind
-        where
-          either : (b : Bool) → cond b 4 0 ≤ 5
-          either true = omega arith
-          either false = omega arith
-
-      by : (a b c : Bool) → numbered (cond a (unchanged s TooLong m) (cond b (cond c (unchanged s Stopped m) acted) (unchanged s NotAdmitted m))) ≤ 5
-      by true b c = few s TooLong m (omega arith)
-      by false true true = few s Stopped m (omega arith)
-      by false true false = small
-      by false false c = few s NotAdmitted m (omega arith)
+  of-step : OneOf (0 ∷ 1 ∷ 2 ∷ 3 ∷ 4 ∷ 5 ∷ []) (numbered (step s m))
+  unfolding step
+  of-step =
+      let l : List ℕ = 0 ∷ 1 ∷ 2 ∷ 3 ∷ 4 ∷ 5 ∷ [] in
+      let one : OneOf l (numbered acted) =
+      ⊎-elim
+      (λ h. laws.same-of l h (laws.either-of l (missed m (accesses s m)) 4 0 (inr (inr (inr (inr (inl refl))))) (inl refl)))
+      (λ h. laws.same-of l (h .0) (inr (inr (inr (inr (inr (inl refl)))))))
+      acted-kind
+      in
+      laws.checked-of s m inner l (inr (inl refl)) (inr (inr (inl refl)))
+      (laws.same-of l inner-number (laws.either-of l (s .stopped) 3 _ (inr (inr (inr (inl refl)))) one))
 
 -- ---- a run
 
@@ -432,6 +443,16 @@ module _ (budget : ℕ) (s : Cpu) (m : List ℕ) where
       × ((ran .ran .count < budget) × ((ran .ran .cpu .stopped ≡ false) × ((pc + 2 ≤ length (ran .memory)) × NotCarriedWord (ran .memory) pc (numberAt (ran .memory) pc Word)))))
   of-run-5 all = of-run-step 5 (λ h. omega arith) (λ h. omega arith) (λ h. omega arith) (of-step-5 (ran .ran .cpu) (ran .memory) (runs .still-bytes budget s m all))
 
+  of-run : OneOf (0 ∷ 1 ∷ 2 ∷ 3 ∷ 4 ∷ 5 ∷ []) number
+  unfolding numberOf
+  of-run =
+      let l : List ℕ = 0 ∷ 1 ∷ 2 ∷ 3 ∷ 4 ∷ 5 ∷ [] in
+      which (λ h. laws.same-of l (given-1 h) (inr (inl refl))) (λ h k. laws.same-of l (given-2 h k) (inr (inr (inl refl))))
+      (λ h. ⊎-elim
+      (λ d. laws.same-of l (ap numberOf (d .0)) (inl refl))
+      (λ d. laws.same-of l (sym (ap numberOf (d .1 .1))) (of-step (ran .ran .cpu) (ran .memory)))
+      (runs .ends budget s m (laws.iff-not-lt 0x100_0000 (length m) .1 (h .0)) (h .1)))
+
 -- ---- entries and returns
 
 module _ (s : Cpu) (m : List ℕ) (vector pc : ℕ) (level : Level) where
@@ -471,6 +492,16 @@ module _ (s : Cpu) (m : List ℕ) (vector pc : ℕ) (level : Level) where
   of-exception-6 =
       laws.iff-trans (laws.checked-on s m called 6 (λ h. omega arith) (λ h. omega arith))
       (laws.iff-and laws.iff-same (rw called-number (laws.here-else 6 (numbered entry) (entry-never 6 (λ h. omega arith) (λ h. omega arith)) (levelTaken level))))
+
+  of-exception : OneOf (0 ∷ 1 ∷ 2 ∷ 4 ∷ 6 ∷ []) (numbered (exception s m vector pc level))
+  unfolding exception
+  of-exception =
+      let l : List ℕ = 0 ∷ 1 ∷ 2 ∷ 4 ∷ 6 ∷ [] in
+      laws.checked-of s m called l (inr (inl refl)) (inr (inr (inl refl)))
+      (laws.same-of l called-number
+      (laws.either-of l (levelTaken level) _ 6
+      (laws.answers-of m (entryAt s level vector) entry (laws.entered-answers s s level vector pc m) l (inl refl) (inr (inr (inr (inl refl)))))
+      (inr (inr (inr (inr (inl refl)))))))
 
 module _ (s : Cpu) (m : List ℕ) (vector level : ℕ) where
   abbrev taken : Outcome
@@ -545,6 +576,24 @@ module _ (s : Cpu) (m : List ℕ) (vector level : ℕ) where
       (laws.iff-trans (laws.here 7 (numbered taken) (taken-never 7 (λ h. omega arith) (λ h. omega arith)) (masked (s .sr) level)) masked-when))
       (λ h. h .1, λ h. (omega (arith, h .0), h)))))))
 
+  of-interrupt : OneOf (0 ∷ 1 ∷ 2 ∷ 4 ∷ 6 ∷ 7 ∷ []) (numbered (interrupt s m vector level))
+  unfolding interrupt
+  of-interrupt =
+      let l : List ℕ = 0 ∷ 1 ∷ 2 ∷ 4 ∷ 6 ∷ 7 ∷ [] in
+      laws.checked-of s m asked l (inr (inl refl)) (inr (inr (inl refl)))
+      (laws.same-of l asked-number
+      (laws.either-of l (ltb level 8) _ 6
+      (laws.same-of l tried-number
+      (laws.either-of l (masked (s .sr) level) 7 _ (inr (inr (inr (inr (inr (inl refl))))))
+      (laws.answers-of m (entryAt s (To level) vector) taken (laws.entered-answers s s (To level) vector (s .pc) m) l (inl refl) (inr (inr (inr (inl refl)))))))
+      (inr (inr (inr (inr (inl refl)))))))
+
+-- 0, 1, 2 or 4: a call that makes accesses and tests nothing else
+accessing : (s : Cpu) (m : List ℕ) (l : List Access) (o : Outcome) → laws.Answers m l o → OneOf (0 ∷ 1 ∷ 2 ∷ 4 ∷ []) (numbered (checked s m o))
+accessing s m l o h =
+    let k : List ℕ = 0 ∷ 1 ∷ 2 ∷ 4 ∷ [] in
+    laws.checked-of s m o k (inr (inl refl)) (inr (inr (inl refl))) (laws.answers-of m l o h k (inl refl) (inr (inr (inr (inl refl)))))
+
 module _ (s : Cpu) (m : List ℕ) where
   back-never : (k : ℕ) → (0 ≡ k → ⊥) → (4 ≡ k → ⊥) → numbered (left s s m) ≡ k → ⊥
   back-never = laws.answers-never m (returnAt s) (left s s m) (laws.left-answers s s m)
@@ -560,6 +609,10 @@ module _ (s : Cpu) (m : List ℕ) where
   of-rte-4 : (numbered (rte s m) ≡ 4) ↔ (Ready s m × SomeOutside m (returnAt s))
   unfolding rte
   of-rte-4 = laws.iff-trans (laws.checked-on s m (left s s m) 4 (λ h. omega arith) (λ h. omega arith)) (laws.iff-and laws.iff-same (laws.answers-4 m (returnAt s) (left s s m) (laws.left-answers s s m)))
+
+  of-rte : OneOf (0 ∷ 1 ∷ 2 ∷ 4 ∷ []) (numbered (rte s m))
+  unfolding rte
+  of-rte = accessing s m (returnAt s) (left s s m) (laws.left-answers s s m)
 
   -- a push and a pop
 
@@ -585,6 +638,10 @@ module _ (s : Cpu) (m : List ℕ) where
   of-push-4 v =
       laws.iff-trans (laws.checked-on s m (pushing v) 4 (λ h. omega arith) (λ h. omega arith))
       (laws.iff-and laws.iff-same (laws.iff-trans (laws.answers-4 m (access below 4 ∷ []) (pushing v) (laws.one-answers s s m below 4 _ _)) (laws.one-outside m below 4)))
+
+  of-push : (v : ℕ) → OneOf (0 ∷ 1 ∷ 2 ∷ 4 ∷ []) (numbered (push32 s m v))
+  unfolding push32
+  of-push v = accessing s m (access below 4 ∷ []) (pushing v) (laws.one-answers s s m below 4 _ _)
 
   -- a pop answers as an outcome with the same reply would
   abbrev top : ℕ
@@ -620,222 +677,8 @@ module _ (s : Cpu) (m : List ℕ) where
       (laws.iff-trans (laws.checked-on s m popped 4 (λ h. omega arith) (λ h. omega arith))
       (laws.iff-and laws.iff-same (laws.iff-trans (laws.answers-4 m (access top 4 ∷ []) popped (laws.one-answers s s m top 4 s m)) (laws.one-outside m top 4))))
 
--- ---- the calls on the state alone
-
-set-sr-number : (s : Cpu) (v : ℕ) → numberOf (setSrCall s v .reply) ≡ cond (admitted s) 0 2
-unfolding setSrCall numberOf
-set-sr-number s v = by (admitted s) (setSr v s)
-  where
-    by : (b : Bool) (t : Cpu) → numberOf (cond {A = Answer} b (record { reply = Done; cpu = t }) (record { reply = NotAdmitted; cpu = s }) .reply) ≡ cond b 0 2
-    by true t = refl
-    by false t = refl
-
-told-number : (s : Cpu) (v : ℕ) → numberOf (told s v .reply) ≡ cond (admitted s) 0 2
-unfolding told numberOf
-told-number s v = by (admitted s)
-  where
-    by : (b : Bool) → numberOf (cond {A = Told} b (record { reply = Done; value = v }) (record { reply = NotAdmitted; value = 0 }) .reply) ≡ cond b 0 2
-    by true = refl
-    by false = refl
-
-abbrev pick : Bool → ℕ → ℕ → ℕ
-pick = cond
-
-not-2 : (s : Cpu) → (pick (admitted s) 0 2 ≡ 2) ↔ (admitted s ≡ false)
-not-2 s = laws.here-else 2 0 (λ h. omega arith) (admitted s)
-
--- of an accumulator: admitted, and its number below 4
-abbrev acc-tests : Cpu → ℕ → ℕ
-acc-tests s i = pick (admitted s) (pick (ltb i 4) 0 6) 2
-
-acc-2 : (s : Cpu) (i : ℕ) → (acc-tests s i ≡ 2) ↔ (admitted s ≡ false)
-acc-2 s i = laws.here-else 2 (pick (ltb i 4) 0 6) (laws.neither (ltb i 4) 0 6 2 (λ h. omega arith) (λ h. omega arith)) (admitted s)
-
-acc-6 : (s : Cpu) (i : ℕ) → (acc-tests s i ≡ 6) ↔ ((admitted s ≡ true) × (4 ≤ i))
-acc-6 s i =
-    laws.iff-trans (laws.later-else 6 (pick (ltb i 4) 0 6) 2 (λ h. omega arith) (admitted s))
-    (laws.iff-and laws.iff-same (laws.iff-trans (laws.here-else 6 0 (λ h. omega arith) (ltb i 4)) (laws.iff-not-lt i 4)))
-
-acc-told : (s : Cpu) (i v : ℕ) → numberOf (accTold s i v .reply) ≡ acc-tests s i
-unfolding numberOf
-acc-told s i v = by (admitted s) (ltb i 4)
-  where
-    by : (a b : Bool)
-        → numberOf (cond {A = Told} a (cond b (record { reply = Done; value = v }) (record { reply = OutOfRange; value = 0 })) (record { reply = NotAdmitted; value = 0 }) .reply) ≡ pick a (pick b 0 6) 2
-    by true true = refl
-    by true false = refl
-    by false b = refl
-
-acc-changed : (s : Cpu) (i : ℕ) (e : Emac) → numberOf (accChanged s i e .reply) ≡ acc-tests s i
-unfolding numberOf
-acc-changed s i e = by (admitted s) (ltb i 4)
-  where
-    by : (a b : Bool)
-        → numberOf (cond {A = Answer} a (cond b (doneWith e s) (record { reply = OutOfRange; cpu = s })) (record { reply = NotAdmitted; cpu = s }) .reply) ≡ pick a (pick b 0 6) 2
-    by true true = refl
-    by true false = refl
-    by false b = refl
-
-acc-get-number : (s : Cpu) (i : ℕ) → numberOf (accGetCall s i .reply) ≡ acc-tests s i
-unfolding accGetCall
-acc-get-number s i = acc-told s i _
-
-acc-phys-number : (s : Cpu) (i : ℕ) → numberOf (accPhysCall s i .reply) ≡ acc-tests s i
-unfolding accPhysCall
-acc-phys-number s i = acc-told s i _
-
-acc-set-number : (s : Cpu) (i v : ℕ) → numberOf (accSetCall s i v .reply) ≡ acc-tests s i
-unfolding accSetCall
-acc-set-number s i v = acc-changed s i _
-
-set-acc-phys-number : (s : Cpu) (i acc ext : ℕ) → numberOf (setAccPhysCall s i acc ext .reply) ≡ acc-tests s i
-unfolding setAccPhysCall
-set-acc-phys-number s i acc ext = acc-changed s i _
-
-set-macsr-number : (s : Cpu) (v : ℕ) → numberOf (setMacsrCall s v .reply) ≡ pick (admitted s) 0 2
-unfolding setMacsrCall numberOf
-set-macsr-number s v = by (admitted s)
-  where
-    by : (b : Bool) → numberOf (cond {A = Answer} b (doneWith (setMacsr (s .emac) v) s) (record { reply = NotAdmitted; cpu = s }) .reply) ≡ pick b 0 2
-    by true = refl
-    by false = refl
-
--- ---- blocks and files: four tests
-
-abbrev four : Bool → Bool → Bool → Bool → ℕ
-four a b c d = cond a 9 (cond b (cond c (cond d 0 2) 9) 8)
-
-module _ (a b c d : Bool) where
-  inner-9 : (pick b (pick c (pick d 0 2) 9) 8 ≡ 9) ↔ ((b ≡ true) × (c ≡ false))
-  inner-9 =
-      laws.iff-trans (laws.later-else 9 (cond c (cond d 0 2) 9) 8 (λ h. omega arith) b)
-      (laws.iff-and laws.iff-same (laws.here-else 9 (cond d 0 2) (laws.neither d 0 2 9 (λ h. omega arith) (λ h. omega arith)) c))
-
-  four-9 : (four a b c d ≡ 9) ↔ ((a ≡ true) ⊎ ((a ≡ false) × ((b ≡ true) × (c ≡ false))))
-  four-9 = by a
-    where
-      by : (a : Bool) → (four a b c d ≡ 9) ↔ ((a ≡ true) ⊎ ((a ≡ false) × ((b ≡ true) × (c ≡ false))))
-      by true = (λ h. inl refl, λ h. refl)
-      by false = (λ h. inr (refl, inner-9 .0 h), ⊎-elim (λ h. absurd (false≢true h)) (λ h. inner-9 .1 (h .1)))
-
-  four-8 : (four a b c d ≡ 8) ↔ ((a ≡ false) × (b ≡ false))
-  four-8 =
-      laws.iff-trans (laws.later 8 (cond b (cond c (cond d 0 2) 9) 8) 9 (λ h. omega arith) a)
-      (laws.iff-and laws.iff-same
-      (laws.here-else 8 (cond c (cond d 0 2) 9) (laws.neither c (cond d 0 2) 9 8 (laws.neither d 0 2 8 (λ h. omega arith) (λ h. omega arith)) (λ h. omega arith)) b))
-
-  four-2 : (four a b c d ≡ 2) ↔ ((a ≡ false) × ((b ≡ true) × ((c ≡ true) × (d ≡ false))))
-  four-2 =
-      laws.iff-trans (laws.later 2 (cond b (cond c (cond d 0 2) 9) 8) 9 (λ h. omega arith) a)
-      (laws.iff-and laws.iff-same
-      (laws.iff-trans (laws.later-else 2 (cond c (cond d 0 2) 9) 8 (λ h. omega arith) b)
-      (laws.iff-and laws.iff-same
-      (laws.iff-trans (laws.later-else 2 (cond d 0 2) 9 (λ h. omega arith) c) (laws.iff-and laws.iff-same (laws.here-else 2 0 (λ h. omega arith) d))))))
-
--- a test that is not both is not either way
-iff-not-both : (a : Bool) {A : Type 0} → ((a ≡ true) ↔ A) → (a ≡ false) ↔ (A → ⊥)
-iff-not-both true p = (λ h. absurd (false≢true (sym h)), λ n. absurd (n (p .0 refl)))
-iff-not-both false p = (λ h x. false≢true (p .1 x), λ n. refl)
-
-module _ (b : List ℕ) where
-  read-number : numberOf (readBlock b .reply) ≡ four (ltb (length b) 5) (eqb (valueAt b 0 1) 1) (eqb (length b) 128 && eqb (valueAt b 1 4) 123) (saysAdmitted b)
-  unfolding readBlock numberOf
-  read-number = by (ltb (length b) 5) (eqb (valueAt b 0 1) 1) (eqb (length b) 128 && eqb (valueAt b 1 4) 123) (saysAdmitted b)
-    where
-      by : (x y z w : Bool)
-          → numberOf (cond {A = Answer} x (notRead WrongLength) (cond y (cond z (cond w (record { reply = Done; cpu = stateAt b }) (notRead NotAdmitted)) (notRead WrongLength)) (notRead WrongVersion)) .reply) ≡ four x y z w
-      by true y z w = refl
-      by false true true true = refl
-      by false true true false = refl
-      by false true false w = refl
-      by false false z w = refl
-
-  right-length : ((eqb (length b) 128 && eqb (valueAt b 1 4) 123) ≡ true) ↔ ((length b ≡ 128) × (valueAt b 1 4 ≡ 123))
-  right-length = laws.iff-trans (laws.iff-both (eqb (length b) 128) (eqb (valueAt b 1 4) 123)) (laws.iff-and (laws.iff-eq (length b) 128) (laws.iff-eq (valueAt b 1 4) 123))
-
-  of-read-9 : (numberOf (readBlock b .reply) ≡ 9) ↔ ((length b < 5) ⊎ ((5 ≤ length b) × ((valueAt b 0 1 ≡ 1) × ((length b ≡ 128) × (valueAt b 1 4 ≡ 123) → ⊥))))
-  of-read-9 =
-      rw read-number
-      (laws.iff-trans (four-9 (ltb (length b) 5) (eqb (valueAt b 0 1) 1) (eqb (length b) 128 && eqb (valueAt b 1 4) 123) (saysAdmitted b))
-      (laws.iff-or (laws.iff-lt (length b) 5)
-      (laws.iff-and (laws.iff-not-lt (length b) 5) (laws.iff-and (laws.iff-eq (valueAt b 0 1) 1) (iff-not-both _ right-length)))))
-
-  of-read-8 : (numberOf (readBlock b .reply) ≡ 8) ↔ ((5 ≤ length b) × (valueAt b 0 1 ≡ 1 → ⊥))
-  of-read-8 =
-      rw read-number
-      (laws.iff-trans (four-8 (ltb (length b) 5) (eqb (valueAt b 0 1) 1) (eqb (length b) 128 && eqb (valueAt b 1 4) 123) (saysAdmitted b))
-      (laws.iff-and (laws.iff-not-lt (length b) 5) (laws.iff-not-eq (valueAt b 0 1) 1)))
-
-  of-read-2 : (numberOf (readBlock b .reply) ≡ 2) ↔ ((5 ≤ length b) × ((valueAt b 0 1 ≡ 1) × (((length b ≡ 128) × (valueAt b 1 4 ≡ 123)) × (saysAdmitted b ≡ false))))
-  of-read-2 =
-      rw read-number
-      (laws.iff-trans (four-2 (ltb (length b) 5) (eqb (valueAt b 0 1) 1) (eqb (length b) 128 && eqb (valueAt b 1 4) 123) (saysAdmitted b))
-      (laws.iff-and (laws.iff-not-lt (length b) 5) (laws.iff-and (laws.iff-eq (valueAt b 0 1) 1) (laws.iff-and right-length laws.iff-same))))
-
-  store-number : (s : Cpu) → numberOf (storeBlock s b .reply) ≡ pick (eqb (length b) 128) (pick (admitted s) 0 2) 9
-  unfolding storeBlock numberOf
-  store-number s = by (eqb (length b) 128) (admitted s)
-    where
-      by : (x y : Bool)
-          → numberOf (cond {A = Stored} x (cond y (record { reply = Done; bytes = blockOf s }) (record { reply = NotAdmitted; bytes = b })) (record { reply = WrongLength; bytes = b }) .reply) ≡ pick x (pick y 0 2) 9
-      by true true = refl
-      by true false = refl
-      by false y = refl
-
-  of-store-9 : (s : Cpu) → (numberOf (storeBlock s b .reply) ≡ 9) ↔ (length b ≡ 128 → ⊥)
-  of-store-9 s =
-      rw (store-number s)
-      (laws.iff-trans (laws.here-else 9 (pick (admitted s) 0 2) (laws.neither (admitted s) 0 2 9 (λ h. omega arith) (λ h. omega arith)) (eqb (length b) 128)) (laws.iff-not-eq (length b) 128))
-
-  of-store-2 : (s : Cpu) → (numberOf (storeBlock s b .reply) ≡ 2) ↔ ((length b ≡ 128) × (admitted s ≡ false))
-  of-store-2 s =
-      rw (store-number s)
-      (laws.iff-trans (laws.later-else 2 (pick (admitted s) 0 2) 9 (λ h. omega arith) (eqb (length b) 128)) (laws.iff-and (laws.iff-eq (length b) 128) (not-2 s)))
-
-module _ (f : List ℕ) where
-  abbrev says : ℕ
-  says = valueAt f 1 4
-
-  abbrev matches : Bool
-  matches = leb 14 says && (leb says (imageMemory + 14) && eqb (length f) (5 + says))
-
-  image-number : numberOf (imageReply f) ≡ four (ltb (length f) 5) (eqb (valueAt f 0 1) 1) matches (admitted (imageState f))
-  unfolding imageReply numberOf
-  image-number = by (ltb (length f) 5) (eqb (valueAt f 0 1) 1) matches (admitted (imageState f))
-    where
-      by : (x y z w : Bool) → numberOf (cond x WrongLength (cond y (cond z (cond w Done NotAdmitted) WrongLength) WrongVersion)) ≡ four x y z w
-      by true y z w = refl
-      by false true true true = refl
-      by false true true false = refl
-      by false true false w = refl
-      by false false z w = refl
-
-  matching : (matches ≡ true) ↔ ((14 ≤ says) × ((says ≤ 49166) × (length f ≡ 5 + says)))
-  matching =
-      laws.iff-trans (laws.iff-both (leb 14 says) (leb says 49166 && eqb (length f) (5 + says)))
-      (laws.iff-and (laws.iff-le 14 says)
-      (laws.iff-trans (laws.iff-both (leb says 49166) (eqb (length f) (5 + says))) (laws.iff-and (laws.iff-le says 49166) (laws.iff-eq (length f) (5 + says)))))
-
-  of-image-9 : (numberOf (imageReply f) ≡ 9)
-      ↔ ((length f < 5) ⊎ ((5 ≤ length f) × ((valueAt f 0 1 ≡ 1) × ((14 ≤ says) × ((says ≤ 49166) × (length f ≡ 5 + says)) → ⊥))))
-  of-image-9 =
-      rw image-number
-      (laws.iff-trans (four-9 (ltb (length f) 5) (eqb (valueAt f 0 1) 1) matches (admitted (imageState f)))
-      (laws.iff-or (laws.iff-lt (length f) 5)
-      (laws.iff-and (laws.iff-not-lt (length f) 5) (laws.iff-and (laws.iff-eq (valueAt f 0 1) 1) (iff-not-both matches matching)))))
-
-  of-image-8 : (numberOf (imageReply f) ≡ 8) ↔ ((5 ≤ length f) × (valueAt f 0 1 ≡ 1 → ⊥))
-  of-image-8 =
-      rw image-number
-      (laws.iff-trans (four-8 (ltb (length f) 5) (eqb (valueAt f 0 1) 1) matches (admitted (imageState f)))
-      (laws.iff-and (laws.iff-not-lt (length f) 5) (laws.iff-not-eq (valueAt f 0 1) 1)))
-
-  of-image-2 : (numberOf (imageReply f) ≡ 2)
-      ↔ ((5 ≤ length f) × ((valueAt f 0 1 ≡ 1) × (((14 ≤ says) × ((says ≤ 49166) × (length f ≡ 5 + says))) × (admitted (imageState f) ≡ false))))
-  of-image-2 =
-      rw image-number
-      (laws.iff-trans (four-2 (ltb (length f) 5) (eqb (valueAt f 0 1) 1) matches (admitted (imageState f)))
-      (laws.iff-and (laws.iff-not-lt (length f) 5) (laws.iff-and (laws.iff-eq (valueAt f 0 1) 1) (laws.iff-and matching laws.iff-same))))
+  of-pop : OneOf (0 ∷ 1 ∷ 2 ∷ 4 ∷ []) (numberOf (pop32 s m .reply))
+  of-pop = laws.same-of (0 ∷ 1 ∷ 2 ∷ 4 ∷ []) popping (accessing s m (access top 4 ∷ []) popped (laws.one-answers s s m top 4 s m))
 
 -- ---- all of them
 
@@ -894,7 +737,29 @@ reply-8-and-9 = record {
   image-9 = of-image-9;
   image-8 = of-image-8;
   image-2 = of-image-2;
+  load-image-9 = of-load-9;
+  load-image-8 = λ f m. of-load f m 8 (λ h. omega arith);
+  load-image-2 = λ f m. of-load f m 2 (λ h. omega arith);
 }
 
 pub no-others : NoOthers
-no-others = record { step-to-5 = step-number }
+no-others = record {
+  step-of = of-step;
+  run-of = of-run;
+  exception-of = of-exception;
+  interrupt-of = of-interrupt;
+  rte-of = of-rte;
+  push32-of = of-push;
+  pop32-of = of-pop;
+  set-sr-of = λ s v. laws.same-of (0 ∷ 2 ∷ []) (set-sr-number s v) (zero-or-2 s);
+  ipl-of = λ s. laws.same-of (0 ∷ 2 ∷ []) (told-number s (maskOf (s .sr))) (zero-or-2 s);
+  supervisor-of = λ s. laws.same-of (0 ∷ 2 ∷ []) (told-number s _) (zero-or-2 s);
+  acc-get-of = λ s i. laws.same-of (0 ∷ 2 ∷ 6 ∷ []) (acc-get-number s i) (acc-of s i);
+  acc-phys-of = λ s i. laws.same-of (0 ∷ 2 ∷ 6 ∷ []) (acc-phys-number s i) (acc-of s i);
+  acc-set-of = λ s i v. laws.same-of (0 ∷ 2 ∷ 6 ∷ []) (acc-set-number s i v) (acc-of s i);
+  set-acc-phys-of = λ s i acc ext. laws.same-of (0 ∷ 2 ∷ 6 ∷ []) (set-acc-phys-number s i acc ext) (acc-of s i);
+  set-macsr-of = λ s v. laws.same-of (0 ∷ 2 ∷ []) (set-macsr-number s v) (zero-or-2 s);
+  read-block-of = read-of;
+  store-block-of = λ s b. store-of b s;
+  load-image-of = load-of;
+}

@@ -8,7 +8,9 @@ pub mod Runs
 pub mod Accesses
 pub mod PartLaws
 pub mod BodyLaws
+pub mod InstructionLaws
 pub mod ReplyLaws
+pub mod CallReplies
 pub mod Exact
 pub mod Handmade
 pub mod Followed

@@ -91,6 +91,20 @@ pub neither : (b : Bool) (x y k : ℕ) → (x ≡ k → ⊥) → (y ≡ k → �
 neither true x y k p q = p
 neither false x y k p q = q
 
+-- ---- a reply is one of these numbers
+
+abbrev pub OneOf : List ℕ → ℕ → Type 0
+OneOf [] n = ⊥
+OneOf (k ∷ ks) n = (n ≡ k) ⊎ OneOf ks n
+
+module _ (l : List ℕ) where
+  pub either-of : (b : Bool) (x y : ℕ) → OneOf l x → OneOf l y → OneOf l (cond b x y)
+  either-of true x y p q = p
+  either-of false x y p q = q
+
+  pub same-of : {x y : ℕ} → x ≡ y → OneOf l y → OneOf l x
+  same-of e h = rw e h
+
 -- ---- the numbers of outcomes
 
 pub number-cond : (b : Bool) (x y : Outcome) → numbered (cond b x y) ≡ cond b (numbered x) (numbered y)
@@ -103,11 +117,14 @@ number-same s n m = refl
 
 -- replies 1 and 2 come before all else
 module _ (s : Cpu) (m : List ℕ) (o : Outcome) where
-  pub checked-number : numbered (checked s m o) ≡ cond (tooLong m) 1 (cond (admitted s) (numbered o) 2)
+  checked-number : numbered (checked s m o) ≡ cond (tooLong m) 1 (cond (admitted s) (numbered o) 2)
   unfolding numberOf refusal
   checked-number =
       number-cond (tooLong m) (unchanged s TooLong m) (cond (admitted s) o (unchanged s NotAdmitted m))
       ∙ ap (λ (x : ℕ). cond (tooLong m) 1 x) (number-cond (admitted s) o (unchanged s NotAdmitted m))
+
+  pub checked-of : (l : List ℕ) → OneOf l 1 → OneOf l 2 → OneOf l (numbered o) → OneOf l (numbered (checked s m o))
+  checked-of l one two h = same-of l checked-number (either-of l (tooLong m) 1 _ one (either-of l (admitted s) (numbered o) 2 h two))
 
   pub checked-1 : (numbered o ≡ 1 → ⊥) → (numbered (checked s m o) ≡ 1) ↔ (0x100_0000 < length m)
   checked-1 n =
@@ -136,6 +153,9 @@ Answers m l o = numbered o ≡ cond (missed m l) 4 0
 module _ (m : List ℕ) (l : List Access) (o : Outcome) (h : Answers m l o) where
   pub answers-4 : (numbered o ≡ 4) ↔ SomeOutside m l
   answers-4 = rw h (iff-trans (here 4 0 (λ e. omega arith) (missed m l)) (missed-some m l))
+
+  pub answers-of : (ks : List ℕ) → OneOf ks 0 → OneOf ks 4 → OneOf ks (numbered o)
+  answers-of ks zero-in four-in = same-of ks h (either-of ks (missed m l) 4 0 four-in zero-in)
 
   pub answers-never : (k : ℕ) → (0 ≡ k → ⊥) → (4 ≡ k → ⊥) → numbered o ≡ k → ⊥
   answers-never k n0 n4 e = neither (missed m l) 4 0 k n4 n0 (sym h ∙ e)

@@ -1,0 +1,298 @@
+-- When the calls on the state alone, on blocks and on files give each reply. Assumes nothing.
+use Prim.Native.Nat.{ℕ, _+_, _≤_, _<_}
+use mathlib.Core.Path.{_≡_, refl, sym}
+use mathlib.Core.Bool.{Bool, true, false, cond, _&&_, false≢true}
+use mathlib.Core.List.{List, [], _∷_}
+use mathlib.Core.Logic.{_↔_, _⊎_, ⊎-elim, inl, inr}
+use native.Mathlib.Omega.{arith}
+use lib.Dec.{eqb, ltb, leb}
+use lib.ListN.{length}
+use Rattle.manual.specs.declared.Cpu.{Cpu}
+use Rattle.manual.specs.declared.Emac.{Emac}
+use Rattle.manual.specs.declared.Reply.the-variants.{Done, NotAdmitted, OutOfRange, WrongVersion, WrongLength}
+use Rattle.manual.specs.declared.Answer.{Answer}
+use Rattle.manual.specs.declared.Told.{Told}
+use Rattle.manual.specs.Memory.{valueAt}
+use Rattle.manual.specs.Reply.{numberOf, isDone}
+use Rattle.manual.specs.Admitted.{admitted}
+use Rattle.manual.specs.Exceptions.{setSr, setSrCall, told}
+use Rattle.manual.specs.Emac.{setMacsr}
+use Rattle.manual.specs.EmacCalls.{accTold, doneWith, accChanged, accGetCall, accSetCall, accPhysCall, setAccPhysCall, setMacsrCall}
+use Rattle.manual.specs.Block.{saysAdmitted, stateAt, notRead, readBlock, blockOf, Stored, storeBlock}
+use Rattle.manual.specs.Image.{imageMemory, imageState, imageReply, imageBudget, imageBytes, Image, image, notLoaded, loadImage}
+use Rattle.demands.specs.ReplyLaws as laws
+use Rattle.demands.specs.ReplyLaws.{OneOf}
+
+-- ---- the calls on the state alone
+
+pub set-sr-number : (s : Cpu) (v : ℕ) → numberOf (setSrCall s v .reply) ≡ cond (admitted s) 0 2
+unfolding setSrCall numberOf
+set-sr-number s v = by (admitted s) (setSr v s)
+  where
+    by : (b : Bool) (t : Cpu) → numberOf (cond {A = Answer} b (record { reply = Done; cpu = t }) (record { reply = NotAdmitted; cpu = s }) .reply) ≡ cond b 0 2
+    by true t = refl
+    by false t = refl
+
+pub told-number : (s : Cpu) (v : ℕ) → numberOf (told s v .reply) ≡ cond (admitted s) 0 2
+unfolding told numberOf
+told-number s v = by (admitted s)
+  where
+    by : (b : Bool) → numberOf (cond {A = Told} b (record { reply = Done; value = v }) (record { reply = NotAdmitted; value = 0 }) .reply) ≡ cond b 0 2
+    by true = refl
+    by false = refl
+
+abbrev pick : Bool → ℕ → ℕ → ℕ
+pick = cond
+
+pub not-2 : (s : Cpu) → (pick (admitted s) 0 2 ≡ 2) ↔ (admitted s ≡ false)
+not-2 s = laws.here-else 2 0 (λ h. omega arith) (admitted s)
+
+pub zero-or-2 : (s : Cpu) → OneOf (0 ∷ 2 ∷ []) (pick (admitted s) 0 2)
+zero-or-2 s = laws.either-of (0 ∷ 2 ∷ []) (admitted s) 0 2 (inl refl) (inr (inl refl))
+
+-- of an accumulator: admitted, and its number below 4
+abbrev acc-tests : Cpu → ℕ → ℕ
+acc-tests s i = pick (admitted s) (pick (ltb i 4) 0 6) 2
+
+pub acc-2 : (s : Cpu) (i : ℕ) → (acc-tests s i ≡ 2) ↔ (admitted s ≡ false)
+acc-2 s i = laws.here-else 2 (pick (ltb i 4) 0 6) (laws.neither (ltb i 4) 0 6 2 (λ h. omega arith) (λ h. omega arith)) (admitted s)
+
+pub acc-6 : (s : Cpu) (i : ℕ) → (acc-tests s i ≡ 6) ↔ ((admitted s ≡ true) × (4 ≤ i))
+acc-6 s i =
+    laws.iff-trans (laws.later-else 6 (pick (ltb i 4) 0 6) 2 (λ h. omega arith) (admitted s))
+    (laws.iff-and laws.iff-same (laws.iff-trans (laws.here-else 6 0 (λ h. omega arith) (ltb i 4)) (laws.iff-not-lt i 4)))
+
+pub acc-of : (s : Cpu) (i : ℕ) → OneOf (0 ∷ 2 ∷ 6 ∷ []) (acc-tests s i)
+acc-of s i =
+    let l : List ℕ = 0 ∷ 2 ∷ 6 ∷ [] in
+    laws.either-of l (admitted s) _ 2 (laws.either-of l (ltb i 4) 0 6 (inl refl) (inr (inr (inl refl)))) (inr (inl refl))
+
+acc-told : (s : Cpu) (i v : ℕ) → numberOf (accTold s i v .reply) ≡ acc-tests s i
+unfolding numberOf
+acc-told s i v = by (admitted s) (ltb i 4)
+  where
+    by : (a b : Bool)
+        → numberOf (cond {A = Told} a (cond b (record { reply = Done; value = v }) (record { reply = OutOfRange; value = 0 })) (record { reply = NotAdmitted; value = 0 }) .reply) ≡ pick a (pick b 0 6) 2
+    by true true = refl
+    by true false = refl
+    by false b = refl
+
+acc-changed : (s : Cpu) (i : ℕ) (e : Emac) → numberOf (accChanged s i e .reply) ≡ acc-tests s i
+unfolding numberOf
+acc-changed s i e = by (admitted s) (ltb i 4)
+  where
+    by : (a b : Bool)
+        → numberOf (cond {A = Answer} a (cond b (doneWith e s) (record { reply = OutOfRange; cpu = s })) (record { reply = NotAdmitted; cpu = s }) .reply) ≡ pick a (pick b 0 6) 2
+    by true true = refl
+    by true false = refl
+    by false b = refl
+
+pub acc-get-number : (s : Cpu) (i : ℕ) → numberOf (accGetCall s i .reply) ≡ acc-tests s i
+unfolding accGetCall
+acc-get-number s i = acc-told s i _
+
+pub acc-phys-number : (s : Cpu) (i : ℕ) → numberOf (accPhysCall s i .reply) ≡ acc-tests s i
+unfolding accPhysCall
+acc-phys-number s i = acc-told s i _
+
+pub acc-set-number : (s : Cpu) (i v : ℕ) → numberOf (accSetCall s i v .reply) ≡ acc-tests s i
+unfolding accSetCall
+acc-set-number s i v = acc-changed s i _
+
+pub set-acc-phys-number : (s : Cpu) (i acc ext : ℕ) → numberOf (setAccPhysCall s i acc ext .reply) ≡ acc-tests s i
+unfolding setAccPhysCall
+set-acc-phys-number s i acc ext = acc-changed s i _
+
+pub set-macsr-number : (s : Cpu) (v : ℕ) → numberOf (setMacsrCall s v .reply) ≡ pick (admitted s) 0 2
+unfolding setMacsrCall numberOf
+set-macsr-number s v = by (admitted s)
+  where
+    by : (b : Bool) → numberOf (cond {A = Answer} b (doneWith (setMacsr (s .emac) v) s) (record { reply = NotAdmitted; cpu = s }) .reply) ≡ pick b 0 2
+    by true = refl
+    by false = refl
+
+-- ---- blocks and files: four tests
+
+abbrev four : Bool → Bool → Bool → Bool → ℕ
+four a b c d = cond a 9 (cond b (cond c (cond d 0 2) 9) 8)
+
+module _ (a b c d : Bool) where
+  inner-9 : (pick b (pick c (pick d 0 2) 9) 8 ≡ 9) ↔ ((b ≡ true) × (c ≡ false))
+  inner-9 =
+      laws.iff-trans (laws.later-else 9 (cond c (cond d 0 2) 9) 8 (λ h. omega arith) b)
+      (laws.iff-and laws.iff-same (laws.here-else 9 (cond d 0 2) (laws.neither d 0 2 9 (λ h. omega arith) (λ h. omega arith)) c))
+
+  four-9 : (four a b c d ≡ 9) ↔ ((a ≡ true) ⊎ ((a ≡ false) × ((b ≡ true) × (c ≡ false))))
+  four-9 = by a
+    where
+      by : (a : Bool) → (four a b c d ≡ 9) ↔ ((a ≡ true) ⊎ ((a ≡ false) × ((b ≡ true) × (c ≡ false))))
+      by true = (λ h. inl refl, λ h. refl)
+      by false = (λ h. inr (refl, inner-9 .0 h), ⊎-elim (λ h. absurd (false≢true h)) (λ h. inner-9 .1 (h .1)))
+
+  four-8 : (four a b c d ≡ 8) ↔ ((a ≡ false) × (b ≡ false))
+  four-8 =
+      laws.iff-trans (laws.later 8 (cond b (cond c (cond d 0 2) 9) 8) 9 (λ h. omega arith) a)
+      (laws.iff-and laws.iff-same
+      (laws.here-else 8 (cond c (cond d 0 2) 9) (laws.neither c (cond d 0 2) 9 8 (laws.neither d 0 2 8 (λ h. omega arith) (λ h. omega arith)) (λ h. omega arith)) b))
+
+  four-2 : (four a b c d ≡ 2) ↔ ((a ≡ false) × ((b ≡ true) × ((c ≡ true) × (d ≡ false))))
+  four-2 =
+      laws.iff-trans (laws.later 2 (cond b (cond c (cond d 0 2) 9) 8) 9 (λ h. omega arith) a)
+      (laws.iff-and laws.iff-same
+      (laws.iff-trans (laws.later-else 2 (cond c (cond d 0 2) 9) 8 (λ h. omega arith) b)
+      (laws.iff-and laws.iff-same
+      (laws.iff-trans (laws.later-else 2 (cond d 0 2) 9 (λ h. omega arith) c) (laws.iff-and laws.iff-same (laws.here-else 2 0 (λ h. omega arith) d))))))
+
+  four-of : OneOf (0 ∷ 2 ∷ 8 ∷ 9 ∷ []) (four a b c d)
+  four-of =
+      let l : List ℕ = 0 ∷ 2 ∷ 8 ∷ 9 ∷ [] in
+      let nine : OneOf l 9 = inr (inr (inr (inl refl))) in
+      laws.either-of l a 9 _ nine
+      (laws.either-of l b _ 8 (laws.either-of l c _ 9 (laws.either-of l d 0 2 (inl refl) (inr (inl refl))) nine) (inr (inr (inl refl))))
+
+-- a test that is not both is not either way
+iff-not-both : (a : Bool) {A : Type 0} → ((a ≡ true) ↔ A) → (a ≡ false) ↔ (A → ⊥)
+iff-not-both true p = (λ h. absurd (false≢true (sym h)), λ n. absurd (n (p .0 refl)))
+iff-not-both false p = (λ h x. false≢true (p .1 x), λ n. refl)
+
+module _ (b : List ℕ) where
+  read-number : numberOf (readBlock b .reply) ≡ four (ltb (length b) 5) (eqb (valueAt b 0 1) 1) (eqb (length b) 128 && eqb (valueAt b 1 4) 123) (saysAdmitted b)
+  unfolding readBlock numberOf
+  read-number = by (ltb (length b) 5) (eqb (valueAt b 0 1) 1) (eqb (length b) 128 && eqb (valueAt b 1 4) 123) (saysAdmitted b)
+    where
+      by : (x y z w : Bool)
+          → numberOf (cond {A = Answer} x (notRead WrongLength) (cond y (cond z (cond w (record { reply = Done; cpu = stateAt b }) (notRead NotAdmitted)) (notRead WrongLength)) (notRead WrongVersion)) .reply) ≡ four x y z w
+      by true y z w = refl
+      by false true true true = refl
+      by false true true false = refl
+      by false true false w = refl
+      by false false z w = refl
+
+  right-length : ((eqb (length b) 128 && eqb (valueAt b 1 4) 123) ≡ true) ↔ ((length b ≡ 128) × (valueAt b 1 4 ≡ 123))
+  right-length = laws.iff-trans (laws.iff-both (eqb (length b) 128) (eqb (valueAt b 1 4) 123)) (laws.iff-and (laws.iff-eq (length b) 128) (laws.iff-eq (valueAt b 1 4) 123))
+
+  pub of-read-9 : (numberOf (readBlock b .reply) ≡ 9) ↔ ((length b < 5) ⊎ ((5 ≤ length b) × ((valueAt b 0 1 ≡ 1) × ((length b ≡ 128) × (valueAt b 1 4 ≡ 123) → ⊥))))
+  of-read-9 =
+      rw read-number
+      (laws.iff-trans (four-9 (ltb (length b) 5) (eqb (valueAt b 0 1) 1) (eqb (length b) 128 && eqb (valueAt b 1 4) 123) (saysAdmitted b))
+      (laws.iff-or (laws.iff-lt (length b) 5)
+      (laws.iff-and (laws.iff-not-lt (length b) 5) (laws.iff-and (laws.iff-eq (valueAt b 0 1) 1) (iff-not-both _ right-length)))))
+
+  pub of-read-8 : (numberOf (readBlock b .reply) ≡ 8) ↔ ((5 ≤ length b) × (valueAt b 0 1 ≡ 1 → ⊥))
+  of-read-8 =
+      rw read-number
+      (laws.iff-trans (four-8 (ltb (length b) 5) (eqb (valueAt b 0 1) 1) (eqb (length b) 128 && eqb (valueAt b 1 4) 123) (saysAdmitted b))
+      (laws.iff-and (laws.iff-not-lt (length b) 5) (laws.iff-not-eq (valueAt b 0 1) 1)))
+
+  pub of-read-2 : (numberOf (readBlock b .reply) ≡ 2) ↔ ((5 ≤ length b) × ((valueAt b 0 1 ≡ 1) × (((length b ≡ 128) × (valueAt b 1 4 ≡ 123)) × (saysAdmitted b ≡ false))))
+  of-read-2 =
+      rw read-number
+      (laws.iff-trans (four-2 (ltb (length b) 5) (eqb (valueAt b 0 1) 1) (eqb (length b) 128 && eqb (valueAt b 1 4) 123) (saysAdmitted b))
+      (laws.iff-and (laws.iff-not-lt (length b) 5) (laws.iff-and (laws.iff-eq (valueAt b 0 1) 1) (laws.iff-and right-length laws.iff-same))))
+
+  pub read-of : OneOf (0 ∷ 2 ∷ 8 ∷ 9 ∷ []) (numberOf (readBlock b .reply))
+  read-of = laws.same-of (0 ∷ 2 ∷ 8 ∷ 9 ∷ []) read-number (four-of (ltb (length b) 5) (eqb (valueAt b 0 1) 1) (eqb (length b) 128 && eqb (valueAt b 1 4) 123) (saysAdmitted b))
+
+  store-number : (s : Cpu) → numberOf (storeBlock s b .reply) ≡ pick (eqb (length b) 128) (pick (admitted s) 0 2) 9
+  unfolding storeBlock numberOf
+  store-number s = by (eqb (length b) 128) (admitted s)
+    where
+      by : (x y : Bool)
+          → numberOf (cond {A = Stored} x (cond y (record { reply = Done; bytes = blockOf s }) (record { reply = NotAdmitted; bytes = b })) (record { reply = WrongLength; bytes = b }) .reply) ≡ pick x (pick y 0 2) 9
+      by true true = refl
+      by true false = refl
+      by false y = refl
+
+  pub of-store-9 : (s : Cpu) → (numberOf (storeBlock s b .reply) ≡ 9) ↔ (length b ≡ 128 → ⊥)
+  of-store-9 s =
+      rw (store-number s)
+      (laws.iff-trans (laws.here-else 9 (pick (admitted s) 0 2) (laws.neither (admitted s) 0 2 9 (λ h. omega arith) (λ h. omega arith)) (eqb (length b) 128)) (laws.iff-not-eq (length b) 128))
+
+  pub of-store-2 : (s : Cpu) → (numberOf (storeBlock s b .reply) ≡ 2) ↔ ((length b ≡ 128) × (admitted s ≡ false))
+  of-store-2 s =
+      rw (store-number s)
+      (laws.iff-trans (laws.later-else 2 (pick (admitted s) 0 2) 9 (λ h. omega arith) (eqb (length b) 128)) (laws.iff-and (laws.iff-eq (length b) 128) (not-2 s)))
+
+  pub store-of : (s : Cpu) → OneOf (0 ∷ 2 ∷ 9 ∷ []) (numberOf (storeBlock s b .reply))
+  store-of s =
+      let l : List ℕ = 0 ∷ 2 ∷ 9 ∷ [] in
+      laws.same-of l (store-number s)
+      (laws.either-of l (eqb (length b) 128) _ 9 (laws.either-of l (admitted s) 0 2 (inl refl) (inr (inl refl))) (inr (inr (inl refl))))
+
+module _ (f : List ℕ) where
+  abbrev says : ℕ
+  says = valueAt f 1 4
+
+  abbrev matches : Bool
+  matches = leb 14 says && (leb says (imageMemory + 14) && eqb (length f) (5 + says))
+
+  image-number : numberOf (imageReply f) ≡ four (ltb (length f) 5) (eqb (valueAt f 0 1) 1) matches (admitted (imageState f))
+  unfolding imageReply numberOf
+  image-number = by (ltb (length f) 5) (eqb (valueAt f 0 1) 1) matches (admitted (imageState f))
+    where
+      by : (x y z w : Bool) → numberOf (cond x WrongLength (cond y (cond z (cond w Done NotAdmitted) WrongLength) WrongVersion)) ≡ four x y z w
+      by true y z w = refl
+      by false true true true = refl
+      by false true true false = refl
+      by false true false w = refl
+      by false false z w = refl
+
+  matching : (matches ≡ true) ↔ ((14 ≤ says) × ((says ≤ 49166) × (length f ≡ 5 + says)))
+  matching =
+      laws.iff-trans (laws.iff-both (leb 14 says) (leb says 49166 && eqb (length f) (5 + says)))
+      (laws.iff-and (laws.iff-le 14 says)
+      (laws.iff-trans (laws.iff-both (leb says 49166) (eqb (length f) (5 + says))) (laws.iff-and (laws.iff-le says 49166) (laws.iff-eq (length f) (5 + says)))))
+
+  pub of-image-9 : (numberOf (imageReply f) ≡ 9)
+      ↔ ((length f < 5) ⊎ ((5 ≤ length f) × ((valueAt f 0 1 ≡ 1) × ((14 ≤ says) × ((says ≤ 49166) × (length f ≡ 5 + says)) → ⊥))))
+  of-image-9 =
+      rw image-number
+      (laws.iff-trans (four-9 (ltb (length f) 5) (eqb (valueAt f 0 1) 1) matches (admitted (imageState f)))
+      (laws.iff-or (laws.iff-lt (length f) 5)
+      (laws.iff-and (laws.iff-not-lt (length f) 5) (laws.iff-and (laws.iff-eq (valueAt f 0 1) 1) (iff-not-both matches matching)))))
+
+  pub of-image-8 : (numberOf (imageReply f) ≡ 8) ↔ ((5 ≤ length f) × (valueAt f 0 1 ≡ 1 → ⊥))
+  of-image-8 =
+      rw image-number
+      (laws.iff-trans (four-8 (ltb (length f) 5) (eqb (valueAt f 0 1) 1) matches (admitted (imageState f)))
+      (laws.iff-and (laws.iff-not-lt (length f) 5) (laws.iff-not-eq (valueAt f 0 1) 1)))
+
+  pub of-image-2 : (numberOf (imageReply f) ≡ 2)
+      ↔ ((5 ≤ length f) × ((valueAt f 0 1 ≡ 1) × (((14 ≤ says) × ((says ≤ 49166) × (length f ≡ 5 + says))) × (admitted (imageState f) ≡ false))))
+  of-image-2 =
+      rw image-number
+      (laws.iff-trans (four-2 (ltb (length f) 5) (eqb (valueAt f 0 1) 1) matches (admitted (imageState f)))
+      (laws.iff-and (laws.iff-not-lt (length f) 5) (laws.iff-and (laws.iff-eq (valueAt f 0 1) 1) (laws.iff-and matching laws.iff-same))))
+
+  pub image-of : OneOf (0 ∷ 2 ∷ 8 ∷ 9 ∷ []) (numberOf (imageReply f))
+  image-of = laws.same-of (0 ∷ 2 ∷ 8 ∷ 9 ∷ []) image-number (four-of (ltb (length f) 5) (eqb (valueAt f 0 1) 1) matches (admitted (imageState f)))
+
+  -- the file is read into a memory
+  module _ (m : List ℕ) where
+    load-number : numberOf (loadImage f m .reply) ≡ pick (eqb (length m) imageMemory) (numberOf (imageReply f)) 9
+    unfolding loadImage numberOf
+    load-number = by (eqb (length m) imageMemory) (isDone (imageReply f))
+      where
+        by : (a b : Bool)
+            → numberOf (cond {A = Image} a (cond b (image (imageReply f) (imageBudget f) (imageState f) (imageBytes f)) (notLoaded (imageReply f) m)) (notLoaded WrongLength m) .reply) ≡ pick a (numberOf (imageReply f)) 9
+        by true true = refl
+        by true false = refl
+        by false b = refl
+
+    pub of-load-9 : (numberOf (loadImage f m .reply) ≡ 9) ↔ ((length m ≡ 49152 → ⊥) ⊎ ((length m ≡ 49152) × (numberOf (imageReply f) ≡ 9)))
+    of-load-9 = rw load-number (by (eqb (length m) imageMemory) (laws.iff-eq (length m) imageMemory))
+      where
+        by : (a : Bool) → ((a ≡ true) ↔ (length m ≡ 49152))
+            → (pick a (numberOf (imageReply f)) 9 ≡ 9) ↔ ((length m ≡ 49152 → ⊥) ⊎ ((length m ≡ 49152) × (numberOf (imageReply f) ≡ 9)))
+        by true e = (λ h. inr (e .0 refl, h), ⊎-elim (λ n. absurd (n (e .0 refl))) (λ h. h .1))
+        by false e = (λ h. inl (λ x. false≢true (e .1 x)), λ h. refl)
+
+    pub of-load : (k : ℕ) → (9 ≡ k → ⊥) → (numberOf (loadImage f m .reply) ≡ k) ↔ ((length m ≡ 49152) × (numberOf (imageReply f) ≡ k))
+    of-load k n =
+        rw load-number
+        (laws.iff-trans (laws.later-else k (numberOf (imageReply f)) 9 n (eqb (length m) imageMemory)) (laws.iff-and (laws.iff-eq (length m) imageMemory) laws.iff-same))
+
+    pub load-of : OneOf (0 ∷ 2 ∷ 8 ∷ 9 ∷ []) (numberOf (loadImage f m .reply))
+    load-of =
+        let l : List ℕ = 0 ∷ 2 ∷ 8 ∷ 9 ∷ [] in
+        laws.same-of l load-number (laws.either-of l (eqb (length m) imageMemory) _ 9 image-of (inr (inr (inr (inl refl)))))

@@ -1,0 +1,284 @@
+-- What every instruction refuses, and which accesses its own reads are: those of `Accesses.reads`. A refusal of any instruction is that
+-- of an access, reply 4, but for the words that are not carried. Assumes nothing.
+use Prim.Native.Nat.{ℕ, _+_, _-_, _/_, _%_, _≤_, _<_}
+use mathlib.Core.Path.{_≡_, refl, sym, ap, _∙_}
+use mathlib.Core.Bool.{Bool, true, false, cond, false≢true}
+use mathlib.Core.List.{List, [], _++_}
+use mathlib.Core.Logic.{_⊎_, ⊎-elim, inl, inr}
+use native.Mathlib.Omega.{arith}
+use native.Mathlib.Nat.{zero-add}
+use lib.Bits.{bitAnd, and-mask}
+use lib.Dec.{T, eqb, ltb, leb, leb→le, lit<}
+use borrow.Author.Tests.{eqb-true, eq-eqb, ltb-false, le-ltb, lt-ltb}
+use Rattle.manual.specs.declared.Size.the-variants.{Word, Long}
+use Rattle.manual.specs.declared.Emac.{Emac}
+use Rattle.manual.specs.declared.Fault.the-variants.{Outside as Out}
+use Rattle.manual.specs.declared.Got.the-variants.{Value, Fault as NoValue}
+use Rattle.manual.specs.declared.Change.{Change}
+use Rattle.manual.specs.Word.{plus, minus, signExtended}
+use Rattle.manual.specs.Registers.{addressOf}
+use Rattle.manual.specs.Memory.{inside, numberAt, load}
+use Rattle.manual.specs.Change.{acting, enterAfter, enter, notCarried, reading}
+use Rattle.word.specs.TestLaws.{by-lt}
+use Rattle.rows.specs.TableLaws.{agree, allBelow, below}
+use Rattle.rows.specs.RowLaws.{rowOf-fits, rowOf-is, unique, in-line}
+use Rattle.instructions.specs.Rows.{value as rowValue, mask as rowMask, fixedBits, rowOf, placeIn}
+use Rattle.instructions.specs.Step.{instruction}
+use Rattle.instructions.specs.Line0 as l0
+use Rattle.instructions.specs.Moves as moves
+use Rattle.instructions.specs.Line4 as l4
+use Rattle.instructions.specs.Line5 as l5
+use Rattle.instructions.specs.Line6 as l6
+use Rattle.instructions.specs.Line7 as l7
+use Rattle.instructions.specs.Line9D as l9
+use Rattle.instructions.specs.LineA as la
+use Rattle.instructions.specs.LineB as lb
+use Rattle.instructions.specs.LineC as lc
+use Rattle.instructions.specs.LineE as le
+use Rattle.instructions.specs.LineF as lf
+use Rattle.demands.specs.Accesses as acc
+use Rattle.demands.specs.Accesses.{Access, none, wordAt, longAt}
+use Rattle.demands.specs.PartLaws.{missed, Made, refused-4, cond-made, load-made, end, row, out, listed}
+use Rattle.demands.specs.BodyLaws.{line0-made, line1-made, line2-made, line3-made, line4-made, sums-made, line5-made, line6-made, line7-made, lineB-made, lineC-made, lineE-made, lineF-made, lineA-made}
+
+-- ---- MAC and MSAC: a word operand is not carried, in the modes that an instruction of the line has
+
+load-is : (b : Bool) (m : List ℕ) (a : ℕ) → inside m a 2 ≡ b → load m a Word ≡ cond b (Value (numberAt m a Word)) (NoValue Out)
+unfolding load
+load-is b m a h = rw h
+
+abbrev pub MacWord : ℕ → List ℕ → ℕ → Type 0
+MacWord at m op = (op / 8 % 8 ≤ 5) × ((inside m (plus at 2) 2 ≡ true) × (numberAt m (plus at 2) Word / 0x800 % 2 ≡ 0))
+
+module _ (g : List ℕ) (at sr mask : ℕ) (m : List ℕ) (op : ℕ) where
+  abbrev second : ℕ
+  second = numberAt m (plus at 2) Word
+
+  abbrev base : ℕ
+  base = addressOf g op
+
+  mac-load : (next a : ℕ) → Made m (longAt (la.loadAddress mask second a)) (la.macLoad g next sr mask m op second a)
+  unfolding la.macLoad
+  mac-load next a = load-made m (la.loadAddress mask second a) Long [] _ refl
+
+  -- what the parallel load reads after the second word
+  abbrev after : List Access
+  after = cond (ltb 5 (op / 8 % 8)) none (cond (eqb (second / 0x800 % 2) 0) none (acc.loadReads g at m op mask second))
+
+  load-reads : Made m (acc.loadReads g at m op mask second)
+      (cond (eqb (op / 8 % 8) 5)
+      (reading (load m (plus at 4) Word) λ d. la.macLoad g (plus at 6) sr mask m op second (plus base (signExtended Word d)))
+      (la.macLoad g (plus at 4) sr mask m op second (cond (eqb (op / 8 % 8) 4) (minus base 4) base)))
+  load-reads =
+      let displaced : ℕ = plus base (signExtended Word (numberAt m (plus at 4) Word)) in
+      let plain : ℕ = cond (eqb (op / 8 % 8) 4) (minus base 4) base in
+      cond-made m (eqb (op / 8 % 8) 5) (wordAt (plus at 4) ++ longAt (la.loadAddress mask second displaced)) (longAt (la.loadAddress mask second plain)) _ _
+      (load-made m (plus at 4) Word (longAt (la.loadAddress mask second displaced)) _ (mac-load _ displaced))
+      (mac-load _ plain)
+
+  -- a word operand, or one whose accesses those are
+  abbrev WordOr : List Access → Change → Type 0
+  WordOr l c = ((op / 8 % 8 ≤ 5) × (second / 0x800 % 2 ≡ 0)) ⊎ Made m l c
+
+  with-load : WordOr after (la.macWithLoad g at sr mask m op second)
+  unfolding la.macWithLoad enter enterAfter acting
+  with-load = by (ltb 5 (op / 8 % 8)) (eqb (second / 0x800 % 2) 0) refl refl _ load-reads
+    where
+      by : (a b : Bool) → ltb 5 (op / 8 % 8) ≡ a → eqb (second / 0x800 % 2) 0 ≡ b → (rest : Change) → Made m (acc.loadReads g at m op mask second) rest
+          → WordOr (cond a none (cond b none (acc.loadReads g at m op mask second))) (cond a (enter sr 10 at) (cond b notCarried rest))
+      by true b ea eb rest h = inr refl
+      by false true ea eb rest h = inl (ltb-false _ _ ea, eqb-true _ _ eb)
+      by false false ea eb rest h = inr h
+
+  load-refused : (w : ℕ) → op / 8 % 8 ≤ 5 → w / 0x800 % 2 ≡ 0 → la.macWithLoad g at sr mask m op w ≡ notCarried
+  unfolding la.macWithLoad
+  load-refused w h e = rw (le-ltb 5 (op / 8 % 8) h, eq-eqb _ _ e)
+
+  mac-made : MacWord at m op ⊎ Made m (acc.macReads g at m op mask) (la.mac g at sr mask m op)
+  unfolding la.mac la.macRegisters acting
+  mac-made = by (inside m (plus at 2) 2) refl
+    where
+      rest : List Access
+      rest = cond (eqb (op / 16 % 4) 0) none after
+
+      registers : (a b : Bool) → eqb (op / 16 % 4) 0 ≡ a → eqb (second / 0x800 % 2) 0 ≡ b
+          → WordOr (cond a none after) (cond a (cond b notCarried (la.macRegisters g at sr op second)) (la.macWithLoad g at sr mask m op second))
+      registers true true ea eb = let e : op / 16 % 4 ≡ 0 = eqb-true _ _ ea in inl (omega arith, eqb-true _ _ eb)
+      registers true false ea eb = inr refl
+      registers false b ea eb = with-load
+
+      by : (b : Bool) → inside m (plus at 2) 2 ≡ b → MacWord at m op ⊎ Made m (acc.macReads g at m op mask) (la.mac g at sr mask m op)
+      by true i = ⊎-elim (λ h. inl (h .0, (i, h .1))) (λ h. inr (load-made m (plus at 2) Word rest _ h)) (registers _ _ refl refl)
+      by false i = inr (rw (load-is false m (plus at 2) i, i) (refused-4 Out))
+
+  pub mac-refused : MacWord at m op → la.mac g at sr mask m op ≡ notCarried
+  unfolding la.mac
+  mac-refused h = rw (load-is true m (plus at 2) (h .1 .0)) (by (eqb (op / 16 % 4) 0))
+    where
+      by : (a : Bool)
+          → cond a (cond (eqb (second / 0x800 % 2) 0) notCarried (la.macRegisters g at sr op second)) (la.macWithLoad g at sr mask m op second) ≡ notCarried
+      by true = rw (eq-eqb _ _ (h .1 .1))
+      by false = load-refused second (h .0) (h .1 .1)
+
+  -- its second word is read then, and no more
+  mac-inside : MacWord at m op → missed m (acc.macReads g at m op mask) ≡ false
+  mac-inside h = rw (h .1 .0) (by (eqb (op / 16 % 4) 0))
+    where
+      by : (a : Bool) → missed m (cond a none after) ≡ false
+      by true = refl
+      by false = rw (le-ltb 5 (op / 8 % 8) (h .0), eq-eqb (second / 0x800 % 2) 0 (h .1 .1))
+
+-- ---- the words that are not carried, by their rows
+
+-- the row of a word of a line, by its place
+row-at : (first n k : ℕ) → k < 100 → first + placeIn first n ≡ first + k → n ≡ first + k
+unfolding placeIn
+row-at first n k h e = by-lt n first
+    (λ l. absurd (none (rw (lt-ltb n first l) at e)))
+    (λ l. some l (rw (le-ltb n first l) at e))
+  where
+    none : first + 124 ≡ first + k → ⊥
+    none e = omega arith
+
+    some : first ≤ n → first + (n - first) ≡ first + k → n ≡ first + k
+    some l e = omega arith
+
+module _ (op : ℕ) (small : op < 0x1_0000) where
+  fits-row : (n : ℕ) → rowOf op ≡ n → bitAnd op (rowMask n) ≡ rowValue n
+  fits-row n e = rw (← e) (rowOf-fits op small)
+
+  whole-word : (v : ℕ) → bitAnd op 0xFFFF ≡ v → op ≡ v
+  whole-word v e = omega (arith, sym (and-mask op 16) ∙ e)
+
+  pub movec-read : rowOf op ≡ 24 → op ≡ 0x4E7A
+  movec-read e = whole-word 0x4E7A (fits-row 24 e)
+
+  pub movec-write : rowOf op ≡ 25 → op ≡ 0x4E7B
+  movec-write e = whole-word 0x4E7B (fits-row 25 e)
+
+  pub mac-fits : rowOf op ≡ 97 → bitAnd op 0xF100 ≡ 0xA000
+  mac-fits e = fits-row 97 e
+
+-- no row that fits a word of the row MAC, A000/F100, has more fixed bits
+abbrev asMac : ℕ → Bool
+asMac q = elim (eqb (bitAnd (rowValue q) 0xF100) (bitAnd 0xA000 (rowMask q))) [ true ↦ leb (fixedBits q) (fixedBits 97) | false ↦ true ]
+
+most-mac : T (allBelow asMac 124)
+most-mac = tt
+
+if-so : (b c : Bool) → b ≡ true → T (elim b [ true ↦ c | false ↦ true ]) → T c
+if-so true c e t = t
+if-so false c e t = absurd (false≢true e)
+
+pub mac-row : (op : ℕ) → op < 0x1_0000 → bitAnd op 0xF100 ≡ 0xA000 → rowOf op ≡ 97
+mac-row op small f =
+    unique op (rowOf op) 97 (rowOf-is op small)
+    (record { isRow = lit< tt; fitting = f; most = λ q l h. at-most q (agree op (rowValue q) (rowMask q) 0xA000 0xF100 h f) (below asMac 124 most-mac q l) })
+  where
+    at-most : (q : ℕ) → bitAnd (rowValue q) 0xF100 ≡ bitAnd 0xA000 (rowMask q) → T (asMac q) → fixedBits q ≤ fixedBits 97
+    at-most q e t = leb→le _ _ (if-so _ _ (eq-eqb _ _ e) t)
+
+-- ---- every instruction
+
+-- line 8, the rows MOVEC_READ and MOVEC_WRITE, and the row MAC with a word operand
+abbrev pub Excused : ℕ → List ℕ → ℕ → Type 0
+Excused at m op = (op / 0x1000 % 16 ≡ 8) ⊎ (((rowOf op ≡ 24) ⊎ (rowOf op ≡ 25)) ⊎ ((rowOf op ≡ 97) × MacWord at m op))
+
+module _ (g : List ℕ) (at sr other : ℕ) (e : Emac) (m : List ℕ) (op : ℕ) where
+  abbrev its-reads : List Access
+  its-reads = acc.reads g at m op (e .mask)
+
+  abbrev its-change : Change
+  its-change = instruction g at sr other e m op
+
+  lines : ((0 + op / 0x1000 % 16 ≡ 4) ⊎ ((0 + op / 0x1000 % 16 ≡ 8) ⊎ (0 + op / 0x1000 % 16 ≡ 10))) ⊎ Made m its-reads its-change
+  unfolding acc.reads instruction
+  lines =
+      let n : ℕ = rowOf op in
+      listed {P = λ k. (k ≡ 4) ⊎ ((k ≡ 8) ⊎ (k ≡ 10))}
+      (row (acc.reads0 g at m op n) (l0.line0 n g at sr m op) (line0-made g at sr m op n)
+      (row (acc.reads1 g at m op n) (moves.line1 n g at sr m op) (line1-made g at sr m op n)
+      (row (acc.reads2 g at m op n) (moves.line2 n g at sr m op) (line2-made g at sr m op n)
+      (row (acc.reads3 g at m op n) (moves.line3 n g at sr m op) (line3-made g at sr m op n)
+      (out (acc.reads4 g at m op n) (l4.line4 n g at sr other m op) (inl refl)
+      (row (acc.reads5 g at m op n) (l5.line5 n g at sr m op) (line5-made g at sr m op n)
+      (row (acc.reads6 g at m op n) (l6.line6 n g at sr m op) (line6-made g at sr m op n)
+      (row (acc.reads7 g at m op n) (l7.line7 n g at sr m op) (line7-made g at sr m op n)
+      (out none notCarried (inr (inl refl))
+      (row (acc.reads9D g at m op 76 n) (l9.line9 n g at sr m op) (sums-made g at sr m op 76 false n)
+      (out (acc.readsA g at m op (e .mask) n) (la.lineA n g at sr e m op) (inr (inr refl))
+      (row (acc.readsB g at m op n) (lb.lineB n g at sr m op) (lineB-made g at sr m op n)
+      (row (acc.readsC g at m op n) (lc.lineC n g at sr m op) (lineC-made g at sr m op n)
+      (row (acc.reads9D g at m op 107 n) (l9.lineD n g at sr m op) (sums-made g at sr m op 107 true n)
+      (row none (le.lineE n g at sr op) (lineE-made g at sr m op n)
+      end)))))))))))))))
+      (op / 0x1000 % 16) (acc.readsF g at m op n) (lf.lineF n g at sr m op) (lineF-made g at sr m op n)
+
+  in-line-4 : op / 0x1000 % 16 ≡ 4 → (its-change ≡ l4.line4 (rowOf op) g at sr other m op) × (its-reads ≡ acc.reads4 g at m op (rowOf op))
+  unfolding acc.reads instruction
+  in-line-4 h = (rw h, rw h)
+
+  in-line-8 : op / 0x1000 % 16 ≡ 8 → (its-change ≡ notCarried) × (its-reads ≡ none)
+  unfolding acc.reads instruction
+  in-line-8 h = (rw h, rw h)
+
+  in-line-a : op / 0x1000 % 16 ≡ 10 → (its-change ≡ la.lineA (rowOf op) g at sr e m op) × (its-reads ≡ acc.readsA g at m op (e .mask) (rowOf op))
+  unfolding acc.reads instruction
+  in-line-a h = (rw h, rw h)
+
+  movec-at : (rowOf op ≡ 24) ⊎ (rowOf op ≡ 25) → (l4.line4 (rowOf op) g at sr other m op ≡ notCarried) × (acc.reads4 g at m op (rowOf op) ≡ none)
+  unfolding acc.reads4 l4.line4 placeIn
+  movec-at (inl h) = (rw h, rw h)
+  movec-at (inr h) = (rw h, rw h)
+
+  at-mac : rowOf op ≡ 97 → (la.lineA (rowOf op) g at sr e m op ≡ la.mac g at sr (e .mask) m op) × (acc.readsA g at m op (e .mask) (rowOf op) ≡ acc.macReads g at m op (e .mask))
+  unfolding acc.readsA la.lineA placeIn
+  at-mac h = (rw h, rw h)
+
+  -- the word is one of those and not carried, and its reads are inside; or the instruction refuses where one of its reads is not inside
+  abbrev Either : Type 0
+  Either = (Excused at m op × ((its-change ≡ notCarried) × (missed m its-reads ≡ false))) ⊎ Made m its-reads its-change
+
+  line-4 : op / 0x1000 % 16 ≡ 4 → Either
+  line-4 h = ⊎-elim not-carried (λ f. inr (rw (in-line-4 h .0, in-line-4 h .1) f)) (line4-made g at sr m op other (rowOf op))
+    where
+      not-carried : (20 + placeIn 20 (rowOf op) ≡ 24) ⊎ (20 + placeIn 20 (rowOf op) ≡ 25) → Either
+      not-carried k =
+          let r : (rowOf op ≡ 24) ⊎ (rowOf op ≡ 25) = ⊎-elim (λ x. inl (row-at 20 (rowOf op) 4 (lit< tt) x)) (λ x. inr (row-at 20 (rowOf op) 5 (lit< tt) x)) k in
+          inl (inr (inl r), (in-line-4 h .0 ∙ movec-at r .0, ap (missed m) (in-line-4 h .1 ∙ movec-at r .1)))
+
+  line-a : op / 0x1000 % 16 ≡ 10 → Either
+  line-a h = ⊎-elim row-mac (λ f. inr (rw (in-line-a h .0, in-line-a h .1) f)) (lineA-made g at sr m op e (rowOf op))
+    where
+      row-mac : 86 + placeIn 86 (rowOf op) ≡ 97 → Either
+      row-mac k =
+          let r : rowOf op ≡ 97 = row-at 86 (rowOf op) 11 (lit< tt) k in
+          let c : its-change ≡ la.mac g at sr (e .mask) m op = in-line-a h .0 ∙ at-mac r .0 in
+          let l : its-reads ≡ acc.macReads g at m op (e .mask) = in-line-a h .1 ∙ at-mac r .1 in
+          ⊎-elim
+          (λ w. inl (inr (inr (r, w)), (c ∙ mac-refused g at sr (e .mask) m op w, ap (missed m) l ∙ mac-inside g at sr (e .mask) m op w)))
+          (λ f. inr (rw (c, l) f))
+          (mac-made g at sr (e .mask) m op)
+
+  pub instruction-made : Either
+  instruction-made =
+      ⊎-elim
+      (⊎-elim (λ h. line-4 (rw zero-add at h)) (⊎-elim (λ h. in-8 (rw zero-add at h)) (λ h. line-a (rw zero-add at h))))
+      (λ f. inr f)
+      lines
+    where
+      in-8 : op / 0x1000 % 16 ≡ 8 → Either
+      in-8 h = inl (inl h, (in-line-8 h .0, ap (missed m) (in-line-8 h .1)))
+
+  movec-line : op < 0x1_0000 → (rowOf op ≡ 24) ⊎ (rowOf op ≡ 25) → op / 0x1000 % 16 ≡ 4
+  movec-line small (inl h) = omega (arith, movec-read op small h)
+  movec-line small (inr h) = omega (arith, movec-write op small h)
+
+  mac-line : op < 0x1_0000 → rowOf op ≡ 97 → op / 0x1000 % 16 ≡ 10
+  mac-line small h = omega (arith, in-line op 97 small (lit< tt) (mac-fits op small h) .0)
+
+  pub excused-refused : op < 0x1_0000 → Excused at m op → its-change ≡ notCarried
+  excused-refused small (inl h) = in-line-8 h .0
+  excused-refused small (inr (inl h)) = in-line-4 (movec-line small h) .0 ∙ movec-at h .0
+  excused-refused small (inr (inr h)) =
+      in-line-a (mac-line small (h .0)) .0 ∙ at-mac (h .0) .0 ∙ mac-refused g at sr (e .mask) m op (h .1)
