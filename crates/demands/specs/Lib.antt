@@ -12,6 +12,7 @@ pub mod InstructionLaws
 pub mod ReplyLaws
 pub mod CallReplies
 pub mod Exact
+pub mod Host
 pub mod Handmade
 pub mod Followed
 pub mod Admits
