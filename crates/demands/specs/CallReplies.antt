@@ -21,7 +21,7 @@ use Rattle.manual.specs.EmacCalls.{accTold, doneWith, accChanged, accGetCall, a
 use Rattle.manual.specs.Block.{saysAdmitted, stateAt, notRead, readBlock, blockOf, Stored, storeBlock}
 use Rattle.manual.specs.Image.{imageMemory, imageState, imageReply, imageBudget, imageBytes, Image, image, notLoaded, loadImage}
 use Rattle.demands.specs.ReplyLaws as laws
-use Rattle.demands.specs.ReplyLaws.{OneOf}
+use Rattle.demands.specs.Exact.{OneOf}
 
 -- ---- the calls on the state alone
 

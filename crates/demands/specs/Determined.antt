@@ -1,12 +1,15 @@
 -- Determined: any two outcomes that a call's promise allows are equal, in reply, state, values, memory, block and text.
 -- Each promise is an equation of the whole outcome with a definition, so one lemma serves them all. Assumes nothing.
 use mathlib.Core.Path.{_≡_, sym, _∙_}
+use mathlib.Core.Bool.{Bool}
 use mathlib.Core.List.{List}
 use Prim.Native.Nat.{ℕ}
 use Rattle.manual.specs.declared.Cpu.{Cpu}
+use Rattle.manual.specs.declared.Emac.{Emac}
 use Rattle.manual.specs.declared.Level.{Level}
 use Rattle.manual.specs.declared.Reply.{Reply}
 use Rattle.manual.specs.Exceptions.{exception, interrupt, rte, push32, pop32, setSrCall, ipl, supervisorCall}
+use Rattle.manual.specs.Emac.{accumulate, setMacsr, moveTo, clearAcc}
 use Rattle.manual.specs.EmacCalls.{accGetCall, accSetCall, accPhysCall, setAccPhysCall, setMacsrCall}
 use Rattle.manual.specs.Block.{fresh, readBlock, storeBlock}
 use Rattle.manual.specs.Image.{loadImage, runText, answerLine, textOf}
@@ -65,6 +68,19 @@ set-acc-phys-determined s i acc ext = determined (setAccPhysCall s i acc ext)
 
 pub set-macsr-determined : (s : Cpu) (v : ℕ) → Determined (setMacsrCall s v)
 set-macsr-determined s v = determined (setMacsrCall s v)
+
+-- the unit lent: what it is at exit
+pub lent-accumulate-determined : (e : Emac) (i scale : ℕ) (sub : Bool) (x y : ℕ) → Determined (accumulate e i scale sub x y)
+lent-accumulate-determined e i scale sub x y = determined (accumulate e i scale sub x y)
+
+pub lent-set-macsr-determined : (e : Emac) (v : ℕ) → Determined (setMacsr e v)
+lent-set-macsr-determined e v = determined (setMacsr e v)
+
+pub lent-move-to-determined : (e : Emac) (i v : ℕ) → Determined (moveTo e i v)
+lent-move-to-determined e i v = determined (moveTo e i v)
+
+pub lent-clear-acc-determined : (e : Emac) (i : ℕ) → Determined (clearAcc e i)
+lent-clear-acc-determined e i = determined (clearAcc e i)
 
 pub fresh-determined : Determined fresh
 fresh-determined = determined fresh

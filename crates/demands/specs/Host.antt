@@ -3,8 +3,8 @@
 -- Which reply is given exactly when, in the document's order: 9 and 8 are told by the block alone, then 1 by the memory, then 2 by the
 -- block; every other is the reply of the call on the state that the block holds. And a refused call leaves the block and memory as
 -- given, and answers the reply alone. A run that did no step leaves them too. Assumes nothing.
-use Prim.Native.Nat.{ℕ, zero, suc, _+_, _*_, _/_, _%_, _≤_, _<_}
-use mathlib.Core.Path.{_≡_, refl, sym, ap, _∙_}
+use Prim.Native.Nat.{ℕ, _+_, _*_, _/_, _%_, _≤_, _<_}
+use mathlib.Core.Path.{_≡_, refl, sym, _∙_}
 use mathlib.Core.Bool.{Bool, true, false, cond, _&&_, false≢true}
 use mathlib.Core.List.{List, [], _∷_}
 use mathlib.Core.Logic.{_↔_, _⊎_, ⊎-elim, inl, inr}
@@ -28,8 +28,8 @@ use Rattle.demands.specs.Refusals.{NotZero, Unchanged, refusals}
 use Rattle.demands.specs.Runs.{Steps, none, one-more, runs}
 use Rattle.demands.specs.Admits.{admits}
 use Rattle.demands.specs.ReplyLaws as laws
-use Rattle.demands.specs.ReplyLaws.{OneOf, numbered}
-use Rattle.demands.specs.Exact as exact
+use Rattle.demands.specs.Exact.{OneOf, numbered}
+use Rattle.demands.specs.ExactLaws as exact
 
 -- the reply's number of an answer: a vector or a count stands above it
 abbrev pub replyIn : Called → ℕ
@@ -82,12 +82,14 @@ module _ (m : List ℕ) (inner : ℕ) (few : inner ≤ 7) (one : (inner ≡ 1) �
   not-admitted = record {
     gives-9 = (λ h. absurd (laws.neither (tooLong m) 1 2 9 (λ e. omega arith) (λ e. omega arith) h), λ h. absurd (omega arith));
     gives-8 = (λ h. absurd (laws.neither (tooLong m) 1 2 8 (λ e. omega arith) (λ e. omega arith) h), λ h. absurd (omega arith));
-    gives-1 =
-      (λ h. (inr refl, laws.iff-lt _ _ .0 (laws.here 1 2 (λ e. omega arith) (tooLong m) .0 h)),
-      λ h. laws.here 1 2 (λ e. omega arith) (tooLong m) .1 (laws.iff-lt _ _ .1 (h .1)));
-    gives-2 =
-      (λ h. (refl, laws.iff-not-lt _ _ .0 (laws.here-else 2 1 (λ e. omega arith) (tooLong m) .0 h)),
-      λ h. laws.here-else 2 1 (λ e. omega arith) (tooLong m) .1 (laws.iff-not-lt _ _ .1 (h .1)));
+    gives-1 = (
+      λ h. (inr refl, laws.iff-lt _ _ .0 (laws.here 1 2 (λ e. omega arith) (tooLong m) .0 h)),
+      λ h. laws.here 1 2 (λ e. omega arith) (tooLong m) .1 (laws.iff-lt _ _ .1 (h .1)),
+    );
+    gives-2 = (
+      λ h. (refl, laws.iff-not-lt _ _ .0 (laws.here-else 2 1 (λ e. omega arith) (tooLong m) .0 h)),
+      λ h. laws.here-else 2 1 (λ e. omega arith) (tooLong m) .1 (laws.iff-not-lt _ _ .1 (h .1)),
+    );
     gives = λ k w. (λ h. absurd (laws.neither (tooLong m) 1 2 k (λ e. not-two k w (inl (sym e))) (λ e. not-two k w (inr (sym e))) h), λ h. absurd (omega (arith, h .0)));
   }
     where

@@ -6,12 +6,15 @@ pub mod Nesting
 pub mod Refusals
 pub mod Runs
 pub mod Accesses
+pub mod Exact
 pub mod PartLaws
 pub mod BodyLaws
 pub mod InstructionLaws
 pub mod ReplyLaws
+pub mod StepReplies
+pub mod EntryReplies
 pub mod CallReplies
-pub mod Exact
+pub mod ExactLaws
 pub mod Host
 pub mod Handmade
 pub mod Followed

@@ -1,10 +1,10 @@
 -- A refused call changes nothing. Document: "Numbered replies".
 --
 -- For every call, every reply but 0 returns the state as given, memory as given and 0 for any other value. A step that is refused
--- changes no byte. (A read of a state block is given no state: refused, it returns the fresh one.) Assumes nothing.
+-- changes no byte. (A read of a state block or of a file is given no state: refused, it returns the fresh one.) Assumes nothing.
 use Prim.Native.Nat.{ℕ}
 use mathlib.Core.Path.{_≡_, refl}
-use mathlib.Core.Bool.{Bool, true, false, cond, _&&_}
+use mathlib.Core.Bool.{Bool, true, false, cond, _&&_, false≢true}
 use mathlib.Core.List.{List}
 use lib.Dec.{eqb, ltb}
 use lib.ListN.{length}
@@ -13,7 +13,7 @@ use Rattle.manual.specs.declared.Level.{Level}
 use Rattle.manual.specs.declared.Level.the-variants.{To}
 use Rattle.manual.specs.declared.Size.the-variants.{Long}
 use Rattle.manual.specs.declared.Reply.{Reply}
-use Rattle.manual.specs.declared.Reply.the-variants.{Done, TooLong, NotAdmitted, Stopped, NotInside, OutOfRange, Masked, WrongVersion, WrongLength}
+use Rattle.manual.specs.declared.Reply.the-variants.{Done, TooLong, NotAdmitted, Stopped, NotInside, NotCarried, OutOfRange, Masked, WrongVersion, WrongLength}
 use Rattle.manual.specs.declared.Answer.{Answer}
 use Rattle.manual.specs.declared.Told.{Told}
 use Rattle.manual.specs.declared.Popped.{Popped}
@@ -23,12 +23,13 @@ use Rattle.manual.specs.declared.Change.{Change}
 use Rattle.manual.specs.Word.{bytes, plus, minus}
 use Rattle.manual.specs.Registers.{addressOf, applied}
 use Rattle.manual.specs.Memory.{inside, valueAt, numberAt, manyInside}
-use Rattle.manual.specs.Reply.{numberOf, Outcome, completed, unchanged, refusal}
+use Rattle.manual.specs.Reply.{numberOf, isDone, Outcome, completed, unchanged, refusal}
 use Rattle.manual.specs.Admitted.{admitted, tooLong, checked}
 use Rattle.manual.specs.Differences.{vectorPlace}
 use Rattle.manual.specs.Exceptions.{setSr, handling, pcPlace, framePlace, framed, handlerState, entered, returned, left, levelTaken, masked, exception, interrupt, rte, push32, notPopped, pop32, setSrCall, told, ipl, supervisorCall}
 use Rattle.manual.specs.EmacCalls.{accGetCall, accSetCall, accPhysCall, setAccPhysCall, setMacsrCall}
 use Rattle.manual.specs.Block.{fresh, notRead, saysAdmitted, stateAt, readBlock, blockOf, Stored, storeBlock}
+use Rattle.manual.specs.Image.{imageMemory, imageState, imageReply, imageBudget, imageBytes, Image, image, notLoaded, loadImage}
 use Rattle.instructions.specs.Perform.{statusPushed, act, perform}
 use Rattle.instructions.specs.Step.{execute, step}
 
@@ -58,6 +59,7 @@ pub record Refusals : Type 0 where
   pub of-set-macsr : (s : Cpu) (v : ℕ) → NotZero (setMacsrCall s v .reply) → setMacsrCall s v .cpu ≡ s
   pub of-read-block : (b : List ℕ) → NotZero (readBlock b .reply) → readBlock b .cpu ≡ fresh
   pub of-store-block : (s : Cpu) (b : List ℕ) → NotZero (storeBlock s b .reply) → storeBlock s b .bytes ≡ b
+  pub of-load-image : (f m : List ℕ) → NotZero (loadImage f m .reply) → ((loadImage f m .cpu ≡ fresh) × (loadImage f m .memory ≡ m)) × (loadImage f m .budget ≡ 0)
 
 -- ---- the proofs: each is a tree of tests, whose leaves are done or unchanged
 
@@ -238,6 +240,19 @@ read-fresh : (b : List ℕ) → NotZero (readBlock b .reply) → readBlock b .cp
 unfolding readBlock
 read-fresh b h = read-by (ltb (length b) 5) (eqb (valueAt b 0 1) 1) (eqb (length b) 128 && eqb (valueAt b 1 4) 123) (saysAdmitted b) (stateAt b) h
 
+number-of : (n : Reply) → isDone n ≡ true → numberOf n ≡ 0
+unfolding numberOf
+number-of Done e = refl
+number-of TooLong e = absurd (false≢true e)
+number-of NotAdmitted e = absurd (false≢true e)
+number-of Stopped e = absurd (false≢true e)
+number-of NotInside e = absurd (false≢true e)
+number-of NotCarried e = absurd (false≢true e)
+number-of OutOfRange e = absurd (false≢true e)
+number-of Masked e = absurd (false≢true e)
+number-of WrongVersion e = absurd (false≢true e)
+number-of WrongLength e = absurd (false≢true e)
+
 store-by : (x y : Bool) (new b : List ℕ)
     → let o : Stored = cond x (cond y (record { reply = Done; bytes = new }) (record { reply = NotAdmitted; bytes = b })) (record { reply = WrongLength; bytes = b }) in
     NotZero (o .reply) → o .bytes ≡ b
@@ -248,6 +263,26 @@ store-by false y new b h = refl
 store-kept : (s : Cpu) (b : List ℕ) → NotZero (storeBlock s b .reply) → storeBlock s b .bytes ≡ b
 unfolding storeBlock
 store-kept s b h = store-by (eqb (length b) 128) (admitted s) (blockOf s) b h
+
+load-kept : (f m : List ℕ) → NotZero (loadImage f m .reply) → ((loadImage f m .cpu ≡ fresh) × (loadImage f m .memory ≡ m)) × (loadImage f m .budget ≡ 0)
+unfolding loadImage
+load-kept f m = by (eqb (length m) imageMemory) (imageReply f)
+  where
+    inner : (b : Bool) (n : Reply) → isDone n ≡ b
+        → let i : Image = cond b (image n (imageBudget f) (imageState f) (imageBytes f)) (notLoaded n m) in
+        NotZero n → ((i .cpu ≡ fresh) × (i .memory ≡ m)) × (i .budget ≡ 0)
+    inner true n e h = absurd (h (number-of n e))
+    inner false n e h = ((refl, refl), refl)
+
+    same : (b : Bool) (n : Reply) → cond b (image n (imageBudget f) (imageState f) (imageBytes f)) (notLoaded n m) .reply ≡ n
+    same true n = refl
+    same false n = refl
+
+    by : (a : Bool) (n : Reply)
+        → let i : Image = cond a (cond (isDone n) (image n (imageBudget f) (imageState f) (imageBytes f)) (notLoaded n m)) (notLoaded WrongLength m) in
+        NotZero (i .reply) → ((i .cpu ≡ fresh) × (i .memory ≡ m)) × (i .budget ≡ 0)
+    by true n h = inner (isDone n) n refl (rw (same (isDone n) n) at h)
+    by false n h = ((refl, refl), refl)
 
 pub refusals : Refusals
 refusals = record {
@@ -268,4 +303,5 @@ refusals = record {
   of-set-macsr = set-macsr-kept;
   of-read-block = read-fresh;
   of-store-block = store-kept;
+  of-load-image = load-kept;
 }

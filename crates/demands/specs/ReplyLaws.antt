@@ -27,9 +27,7 @@ use Rattle.manual.specs.Exceptions.{setSr, handling, pcPlace, framePlace, frame
 use Rattle.instructions.specs.Perform.{statusPushed, act, perform}
 use Rattle.demands.specs.Accesses.{Access, access, Outside, SomeOutside, this, another, entryAt, returnAt, manyLongs, leaves}
 use Rattle.demands.specs.PartLaws.{refusing, missed, missed-some}
-
-abbrev pub numbered : Outcome → ℕ
-numbered o = numberOf (o .stepped .reply)
+use Rattle.demands.specs.Exact.{numbered, OneOf}
 
 -- ---- equivalences
 
@@ -92,10 +90,6 @@ neither true x y k p q = p
 neither false x y k p q = q
 
 -- ---- a reply is one of these numbers
-
-abbrev pub OneOf : List ℕ → ℕ → Type 0
-OneOf [] n = ⊥
-OneOf (k ∷ ks) n = (n ≡ k) ⊎ OneOf ks n
 
 module _ (l : List ℕ) where
   pub either-of : (b : Bool) (x y : ℕ) → OneOf l x → OneOf l y → OneOf l (cond b x y)
