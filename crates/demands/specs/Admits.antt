@@ -4,11 +4,11 @@
 -- the range of its mode, 0 to 2^48-1 with FI clear and SU set, and -2^47 to 2^47-1 otherwise. Assumes nothing.
 use Prim.Native.Nat.{ℕ, zero, suc, _+_, _-_, _^_, _≤_, _<_}
 use mathlib.Core.Path.{_≡_, refl, sym, _∙_}
-use mathlib.Core.Bool.{Bool, true, false, cond, _&&_}
+use mathlib.Core.Bool.{Bool, true, false, cond, _&&_, false≢true}
 use mathlib.Core.List.{List, []}
 use native.Mathlib.Omega.{arith}
 use lib.Bits.{bitAnd}
-use lib.Dec.{ltb, eqb}
+use lib.Dec.{ltb, leb, eqb}
 use lib.IntN.{pos}
 use lib.ListN.{length}
 use borrow.Author.Tests.{lt-ltb}
@@ -31,6 +31,7 @@ use Rattle.manual.specs.Reply.{Outcome, completed, unchanged, isDone}
 use Rattle.manual.specs.Admitted.{status, admitted, emacAdmitted, tooLong, checked}
 use Rattle.manual.specs.Exceptions.{setSr, entered, left, levelTaken, masked, exception, interrupt, rte, push32, notPopped, pop32, setSrCall}
 use Rattle.manual.specs.Block.{fresh, saysAdmitted, stateAt, notRead, readBlock}
+use Rattle.manual.specs.Image.{imageMemory, imageState, imageReply, imageBudget, imageBytes, Image, image, notLoaded, loadImage}
 use Rattle.instructions.specs.Perform.{statusPushed, act, perform}
 use Rattle.instructions.specs.Step.{execute, step}
 use Rattle.instructions.specs.Run.{RunOutcome, ended, afterOne, steps, run}
@@ -60,9 +61,10 @@ pub record Admits : Type 0 where
   pub by-acc-set : (s : Cpu) (i v : ℕ) → admitted s ≡ true → admitted (accSetCall s i v .cpu) ≡ true
   pub by-set-acc-phys : (s : Cpu) (i acc ext : ℕ) → acc < 2 ^ 32 → ext < 2 ^ 16 → admitted s ≡ true → admitted (setAccPhysCall s i acc ext .cpu) ≡ true
   pub by-set-macsr : (s : Cpu) (v : ℕ) → admitted s ≡ true → admitted (setMacsrCall s v .cpu) ≡ true
-  -- a block is given no state, and a refused read returns the fresh one
+  -- a read of a block or of a file is given no state, and a refused one returns the fresh one
   pub fresh-state : admitted fresh ≡ true
   pub by-read-block : (b : List ℕ) → admitted (readBlock b .cpu) ≡ true
+  pub by-load-image : (f m : List ℕ) → admitted (loadImage f m .cpu) ≡ true
 
 -- ---- the proofs
 
@@ -200,6 +202,30 @@ read-admitted b = by (ltb (length b) 5) (eqb (valueAt b 0 1) 1) (eqb (length b) 
     by false true false w e = fresh-admitted
     by false false z w e = fresh-admitted
 
+image-admitted : (f : List ℕ) → isDone (imageReply f) ≡ true → admitted (imageState f) ≡ true
+unfolding imageReply
+image-admitted f = by (ltb (length f) 5) (eqb (valueAt f 0 1) 1) (leb 14 l && (leb l (imageMemory + 14) && eqb (length f) (5 + l))) (admitted (imageState f))
+  where
+    l : ℕ
+    l = valueAt f 1 4
+
+    by : (x y z w : Bool) → isDone (cond x WrongLength (cond y (cond z (cond w Done NotAdmitted) WrongLength) WrongVersion)) ≡ true → w ≡ true
+    by true y z w e = absurd (false≢true e)
+    by false true true true e = refl
+    by false true true false e = absurd (false≢true e)
+    by false true false w e = absurd (false≢true e)
+    by false false z w e = absurd (false≢true e)
+
+load-admitted : (f m : List ℕ) → admitted (loadImage f m .cpu) ≡ true
+unfolding loadImage
+load-admitted f m = by (eqb (length m) imageMemory) (isDone (imageReply f)) refl
+  where
+    by : (a b : Bool) → isDone (imageReply f) ≡ b
+        → admitted (cond {A = Image} a (cond b (image (imageReply f) (imageBudget f) (imageState f) (imageBytes f)) (notLoaded (imageReply f) m)) (notLoaded WrongLength m) .cpu) ≡ true
+    by true true e = image-admitted f e
+    by true false e = fresh-admitted
+    by false b e = fresh-admitted
+
 -- the number that a pattern of 48 bits stands for is in range
 range : (k : Mode) (a : ℕ) → a < 2 ^ 48 → inRange k (valueOf k a) ≡ true
 range k a h = by (unsigned k)
@@ -231,4 +257,5 @@ admits = record {
   by-set-macsr = λ s v h. calls.set-macsr-call-kept s h v;
   fresh-state = fresh-admitted;
   by-read-block = read-admitted;
+  by-load-image = load-admitted;
 }

@@ -1,6 +1,6 @@
 -- When the calls on the state alone, on blocks and on files give each reply. Assumes nothing.
 use Prim.Native.Nat.{ℕ, _+_, _≤_, _<_}
-use mathlib.Core.Path.{_≡_, refl, sym}
+use mathlib.Core.Path.{_≡_, refl}
 use mathlib.Core.Bool.{Bool, true, false, cond, _&&_, false≢true}
 use mathlib.Core.List.{List, [], _∷_}
 use mathlib.Core.Logic.{_↔_, _⊎_, ⊎-elim, inl, inr}
@@ -150,11 +150,6 @@ module _ (a b c d : Bool) where
       laws.either-of l a 9 _ nine
       (laws.either-of l b _ 8 (laws.either-of l c _ 9 (laws.either-of l d 0 2 (inl refl) (inr (inl refl))) nine) (inr (inr (inl refl))))
 
--- a test that is not both is not either way
-iff-not-both : (a : Bool) {A : Type 0} → ((a ≡ true) ↔ A) → (a ≡ false) ↔ (A → ⊥)
-iff-not-both true p = (λ h. absurd (false≢true (sym h)), λ n. absurd (n (p .0 refl)))
-iff-not-both false p = (λ h x. false≢true (p .1 x), λ n. refl)
-
 module _ (b : List ℕ) where
   read-number : numberOf (readBlock b .reply) ≡ four (ltb (length b) 5) (eqb (valueAt b 0 1) 1) (eqb (length b) 128 && eqb (valueAt b 1 4) 123) (saysAdmitted b)
   unfolding readBlock numberOf
@@ -176,7 +171,7 @@ module _ (b : List ℕ) where
       rw read-number
       (laws.iff-trans (four-9 (ltb (length b) 5) (eqb (valueAt b 0 1) 1) (eqb (length b) 128 && eqb (valueAt b 1 4) 123) (saysAdmitted b))
       (laws.iff-or (laws.iff-lt (length b) 5)
-      (laws.iff-and (laws.iff-not-lt (length b) 5) (laws.iff-and (laws.iff-eq (valueAt b 0 1) 1) (iff-not-both _ right-length)))))
+      (laws.iff-and (laws.iff-not-lt (length b) 5) (laws.iff-and (laws.iff-eq (valueAt b 0 1) 1) (laws.iff-not _ right-length)))))
 
   pub of-read-8 : (numberOf (readBlock b .reply) ≡ 8) ↔ ((5 ≤ length b) × (valueAt b 0 1 ≡ 1 → ⊥))
   of-read-8 =
@@ -249,7 +244,7 @@ module _ (f : List ℕ) where
       rw image-number
       (laws.iff-trans (four-9 (ltb (length f) 5) (eqb (valueAt f 0 1) 1) matches (admitted (imageState f)))
       (laws.iff-or (laws.iff-lt (length f) 5)
-      (laws.iff-and (laws.iff-not-lt (length f) 5) (laws.iff-and (laws.iff-eq (valueAt f 0 1) 1) (iff-not-both matches matching)))))
+      (laws.iff-and (laws.iff-not-lt (length f) 5) (laws.iff-and (laws.iff-eq (valueAt f 0 1) 1) (laws.iff-not matches matching)))))
 
   pub of-image-8 : (numberOf (imageReply f) ≡ 8) ↔ ((5 ≤ length f) × (valueAt f 0 1 ≡ 1 → ⊥))
   of-image-8 =

@@ -1,5 +1,5 @@
 -- When an entry, a return, a push and a pop give each reply. Assumes nothing.
-use Prim.Native.Nat.{ℕ, _/_, _%_, _≤_, _<_}
+use Prim.Native.Nat.{_+_, ℕ, _/_, _%_, _≤_, _<_}
 use mathlib.Core.Path.{_≡_, refl, sym, ap, _∙_}
 use mathlib.Core.Bool.{Bool, true, false, cond}
 use mathlib.Core.List.{List, [], _∷_}
@@ -62,6 +62,15 @@ module _ (s : Cpu) (m : List ℕ) (vector pc : ℕ) (level : Level) where
   of-exception-6 =
       laws.iff-trans (laws.checked-on s m called 6 (λ h. omega arith) (λ h. omega arith))
       (laws.iff-and laws.iff-same (rw called-number (laws.here-else 6 (numbered entry) (entry-never 6 (λ h. omega arith) (λ h. omega arith)) (levelTaken level))))
+
+  pub of-exception-0 : (numbered (exception s m vector pc level) ≡ 0) ↔ (Ready s m × ((levelTaken level ≡ true) × (SomeOutside m (entryAt s level vector) → ⊥)))
+  unfolding exception
+  of-exception-0 =
+      laws.iff-trans (laws.checked-on s m called 0 (λ h. omega arith) (λ h. omega arith))
+      (laws.iff-and laws.iff-same
+      (rw called-number
+      (laws.iff-trans (laws.later-else 0 (numbered entry) 6 (λ h. omega arith) (levelTaken level))
+      (laws.iff-and laws.iff-same (laws.answers-0 m (entryAt s level vector) entry (laws.entered-answers s s level vector pc m))))))
 
   pub of-exception : OneOf (0 ∷ 1 ∷ 2 ∷ 4 ∷ 6 ∷ []) (numbered (exception s m vector pc level))
   unfolding exception
@@ -146,6 +155,18 @@ module _ (s : Cpu) (m : List ℕ) (vector level : ℕ) where
       (laws.iff-trans (laws.here 7 (numbered taken) (taken-never 7 (λ h. omega arith) (λ h. omega arith)) (masked (s .sr) level)) masked-when))
       (λ h. h .1, λ h. (omega (arith, h .0), h)))))))
 
+  pub of-interrupt-0 : (numbered (interrupt s m vector level) ≡ 0) ↔ (Ready s m × ((level < 8) × ((masked (s .sr) level ≡ false) × (SomeOutside m (entryAt s (To level) vector) → ⊥))))
+  unfolding interrupt
+  of-interrupt-0 =
+      laws.iff-trans (laws.checked-on s m asked 0 (λ h. omega arith) (λ h. omega arith))
+      (laws.iff-and laws.iff-same
+      (rw asked-number
+      (laws.iff-trans (laws.later-else 0 (numbered tried) 6 (λ h. omega arith) (ltb level 8))
+      (laws.iff-and (laws.iff-lt level 8)
+      (rw tried-number
+      (laws.iff-trans (laws.later 0 (numbered taken) 7 (λ h. omega arith) (masked (s .sr) level))
+      (laws.iff-and laws.iff-same (laws.answers-0 m (entryAt s (To level) vector) taken (laws.entered-answers s s (To level) vector (s .pc) m)))))))))
+
   pub of-interrupt : OneOf (0 ∷ 1 ∷ 2 ∷ 4 ∷ 6 ∷ 7 ∷ []) (numbered (interrupt s m vector level))
   unfolding interrupt
   of-interrupt =
@@ -180,6 +201,12 @@ module _ (s : Cpu) (m : List ℕ) where
   unfolding rte
   of-rte-4 = laws.iff-trans (laws.checked-on s m (left s s m) 4 (λ h. omega arith) (λ h. omega arith)) (laws.iff-and laws.iff-same (laws.answers-4 m (returnAt s) (left s s m) (laws.left-answers s s m)))
 
+  pub of-rte-0 : (numbered (rte s m) ≡ 0) ↔ (Ready s m × (SomeOutside m (returnAt s) → ⊥))
+  unfolding rte
+  of-rte-0 =
+      laws.iff-trans (laws.checked-on s m (left s s m) 0 (λ h. omega arith) (λ h. omega arith))
+      (laws.iff-and laws.iff-same (laws.answers-0 m (returnAt s) (left s s m) (laws.left-answers s s m)))
+
   pub of-rte : OneOf (0 ∷ 1 ∷ 2 ∷ 4 ∷ []) (numbered (rte s m))
   unfolding rte
   of-rte = accessing s m (returnAt s) (left s s m) (laws.left-answers s s m)
@@ -208,6 +235,12 @@ module _ (s : Cpu) (m : List ℕ) where
   of-push-4 v =
       laws.iff-trans (laws.checked-on s m (pushing v) 4 (λ h. omega arith) (λ h. omega arith))
       (laws.iff-and laws.iff-same (laws.iff-trans (laws.answers-4 m (access below 4 ∷ []) (pushing v) (laws.one-answers s s m below 4 _ _)) (laws.one-outside m below 4)))
+
+  pub of-push-0 : (v : ℕ) → (numbered (push32 s m v) ≡ 0) ↔ (Ready s m × (below + 4 ≤ length m))
+  unfolding push32
+  of-push-0 v =
+      laws.iff-trans (laws.checked-on s m (pushing v) 0 (λ h. omega arith) (λ h. omega arith))
+      (laws.iff-and laws.iff-same (laws.iff-trans (laws.answers-0 m (access below 4 ∷ []) (pushing v) (laws.one-answers s s m below 4 _ _)) (laws.one-inside m below 4)))
 
   pub of-push : (v : ℕ) → OneOf (0 ∷ 1 ∷ 2 ∷ 4 ∷ []) (numbered (push32 s m v))
   unfolding push32
@@ -246,6 +279,12 @@ module _ (s : Cpu) (m : List ℕ) where
       rw popping
       (laws.iff-trans (laws.checked-on s m popped 4 (λ h. omega arith) (λ h. omega arith))
       (laws.iff-and laws.iff-same (laws.iff-trans (laws.answers-4 m (access top 4 ∷ []) popped (laws.one-answers s s m top 4 s m)) (laws.one-outside m top 4))))
+
+  pub of-pop-0 : (numberOf (pop32 s m .reply) ≡ 0) ↔ (Ready s m × (top + 4 ≤ length m))
+  of-pop-0 =
+      rw popping
+      (laws.iff-trans (laws.checked-on s m popped 0 (λ h. omega arith) (λ h. omega arith))
+      (laws.iff-and laws.iff-same (laws.iff-trans (laws.answers-0 m (access top 4 ∷ []) popped (laws.one-answers s s m top 4 s m)) (laws.one-inside m top 4))))
 
   pub of-pop : OneOf (0 ∷ 1 ∷ 2 ∷ 4 ∷ []) (numberOf (pop32 s m .reply))
   of-pop = laws.same-of (0 ∷ 1 ∷ 2 ∷ 4 ∷ []) popping (accessing s m (access top 4 ∷ []) popped (laws.one-answers s s m top 4 s m))

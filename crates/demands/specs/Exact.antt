@@ -1,5 +1,6 @@
 -- Each reply is given exactly when the document says. Document: "Numbered replies".
 --
+--   0  done; a step also gives the vector it entered, or 0
 --   1  memory too long
 --   2  state not admitted
 --   3  state stopped (step; run with budget left)
@@ -22,6 +23,8 @@ use Rattle.manual.specs.declared.Cpu.{Cpu}
 use Rattle.manual.specs.declared.Level.{Level}
 use Rattle.manual.specs.declared.Level.the-variants.{Kept, To}
 use Rattle.manual.specs.declared.Size.the-variants.{Word}
+use Rattle.manual.specs.declared.Action.{Action}
+use Rattle.manual.specs.declared.Action.the-variants.{Nothing, Store, StoreMany, LoadMany, Enter, Return, Status, Stop, PushStatus, Halt, Other, Accumulate, SetAcc, SetExt, SetMacsr, SetMask, CopyAcc, ClearAcc, Refuse}
 use Rattle.manual.specs.Word.{plus, minus}
 use Rattle.manual.specs.Registers.{addressOf}
 use Rattle.manual.specs.Memory.{inside, valueAt, numberAt}
@@ -31,7 +34,7 @@ use Rattle.manual.specs.Exceptions.{levelTaken, masked, exception, interrupt, r
 use Rattle.manual.specs.EmacCalls.{accGetCall, accSetCall, accPhysCall, setAccPhysCall, setMacsrCall}
 use Rattle.manual.specs.Block.{saysAdmitted, readBlock, storeBlock}
 use Rattle.manual.specs.Image.{imageState, imageReply, loadImage}
-use Rattle.instructions.specs.Step.{step}
+use Rattle.instructions.specs.Step.{instruction, step}
 use Rattle.instructions.specs.Run.{RunOutcome, run}
 use Rattle.demands.specs.Accesses.{access, Outside, SomeOutside, entryAt, returnAt, accesses}
 
@@ -50,6 +53,47 @@ pub data NotCarriedWord (m : List ℕ) (at op : ℕ) : Type 0 where
   -- a MAC word, A000/F100, of a mode below 6, whose second word is inside and has bit 11 clear
   word-operand : bitAnd op 0xF100 ≡ 0xA000 → op / 8 % 8 ≤ 5 → inside m (plus at 2) 2 ≡ true → numberAt m (plus at 2) Word / 0x800 % 2 ≡ 0
       → NotCarriedWord m at op
+
+-- the vector that an instruction enters, or 0
+abbrev pub vectorOf : Action → ℕ
+vectorOf Nothing = 0
+vectorOf (Store a z v) = 0
+vectorOf (StoreMany regs a) = 0
+vectorOf (LoadMany regs a) = 0
+vectorOf (Enter vector pc) = vector
+vectorOf Return = 0
+vectorOf (Status v) = 0
+vectorOf (Stop v) = 0
+vectorOf (PushStatus v) = 0
+vectorOf Halt = 0
+vectorOf (Other v) = 0
+vectorOf (Accumulate i scale sub x y) = 0
+vectorOf (SetAcc i v) = 0
+vectorOf (SetExt i v) = 0
+vectorOf (SetMacsr v) = 0
+vectorOf (SetMask v) = 0
+vectorOf (CopyAcc from to) = 0
+vectorOf (ClearAcc i) = 0
+vectorOf (Refuse n) = 0
+
+-- done: nothing stands against it. (Of the calls that make no access, 0 is what is left: NoOthers.)
+pub record Reply0 : Type 0 where
+  pub step-0 : (s : Cpu) (m : List ℕ) → ((j : ℕ) → getD m j 0 < 256)
+      → (numbered (step s m) ≡ 0)
+      ↔ (Ready s m × ((s .stopped ≡ false) × ((SomeOutside m (accesses s m) → ⊥) × (NotCarriedWord m (s .pc) (numberAt m (s .pc) Word) → ⊥))))
+  -- a step also gives the vector it entered, or 0
+  pub step-vector : (s : Cpu) (m : List ℕ) → numbered (step s m) ≡ 0
+      → step s m .stepped .vector ≡ vectorOf (instruction (s .r) (s .pc) (s .sr) (s .other) (s .emac) m (numberAt m (s .pc) Word) .action)
+  -- a run: as many steps as the budget says
+  pub run-0 : (budget : ℕ) (s : Cpu) (m : List ℕ) → (numberOf (run budget s m .ran .reply) ≡ 0) ↔ (Ready s m × (run budget s m .ran .count ≡ budget))
+  pub exception-0 : (s : Cpu) (m : List ℕ) (vector pc : ℕ) (level : Level)
+      → (numbered (exception s m vector pc level) ≡ 0) ↔ (Ready s m × ((levelTaken level ≡ true) × (SomeOutside m (entryAt s level vector) → ⊥)))
+  pub interrupt-0 : (s : Cpu) (m : List ℕ) (vector level : ℕ)
+      → (numbered (interrupt s m vector level) ≡ 0)
+      ↔ (Ready s m × ((level < 8) × ((masked (s .sr) level ≡ false) × (SomeOutside m (entryAt s (To level) vector) → ⊥))))
+  pub rte-0 : (s : Cpu) (m : List ℕ) → (numbered (rte s m) ≡ 0) ↔ (Ready s m × (SomeOutside m (returnAt s) → ⊥))
+  pub push32-0 : (s : Cpu) (m : List ℕ) (v : ℕ) → (numbered (push32 s m v) ≡ 0) ↔ (Ready s m × (minus (addressOf (s .r) 7) 4 + 4 ≤ length m))
+  pub pop32-0 : (s : Cpu) (m : List ℕ) → (numberOf (pop32 s m .reply) ≡ 0) ↔ (Ready s m × (addressOf (s .r) 7 + 4 ≤ length m))
 
 pub record Reply1 : Type 0 where
   pub step-1 : (s : Cpu) (m : List ℕ) → (numbered (step s m) ≡ 1) ↔ (0x100_0000 < length m)

@@ -24,7 +24,7 @@ use Rattle.manual.specs.Block.{readBlock, storeBlock}
 use Rattle.instructions.specs.Step.{step}
 use Rattle.instructions.specs.Run.{RunOutcome, run}
 use Rattle.harness.specs.Calls.{Called, called, blockReply, notRead, settled, onBlock, stepOn, exceptionOn, interruptOn, rteOn, runOn}
-use Rattle.demands.specs.Refusals.{NotZero, Unchanged, refusals}
+use Rattle.demands.specs.Refusals.{NotZero, Unchanged, is-refused, refusals}
 use Rattle.demands.specs.Runs.{Steps, none, one-more, runs}
 use Rattle.demands.specs.Admits.{admits}
 use Rattle.demands.specs.ReplyLaws as laws
@@ -150,19 +150,6 @@ number-small OutOfRange = omega arith
 number-small Masked = omega arith
 number-small WrongVersion = omega arith
 number-small WrongLength = omega arith
-
-is-refused : (n : Reply) → NotZero n → isDone n ≡ false
-unfolding numberOf
-is-refused Done h = absurd (h refl)
-is-refused TooLong h = refl
-is-refused NotAdmitted h = refl
-is-refused Stopped h = refl
-is-refused NotInside h = refl
-is-refused NotCarried h = refl
-is-refused OutOfRange h = refl
-is-refused Masked h = refl
-is-refused WrongVersion h = refl
-is-refused WrongLength h = refl
 
 -- the vector counts w times: 256, or 0
 module _ (w : ℕ) (low : (n v : ℕ) → n ≤ 9 → (n + w * v) % 256 ≡ n) (alone : (n : ℕ) → n ≤ 9 → n + w * 0 < 256) (o : Outcome) (b m : List ℕ) where

@@ -3,7 +3,8 @@
 -- For every call, every reply but 0 returns the state as given, memory as given and 0 for any other value. A step that is refused
 -- changes no byte. (A read of a state block or of a file is given no state: refused, it returns the fresh one.) Assumes nothing.
 use Prim.Native.Nat.{ℕ}
-use mathlib.Core.Path.{_≡_, refl}
+use mathlib.Core.Path.{_≡_, refl, sym}
+use native.Mathlib.Omega.{arith}
 use mathlib.Core.Bool.{Bool, true, false, cond, _&&_, false≢true}
 use mathlib.Core.List.{List}
 use lib.Dec.{eqb, ltb}
@@ -63,9 +64,49 @@ pub record Refusals : Type 0 where
 
 -- ---- the proofs: each is a tree of tests, whose leaves are done or unchanged
 
+pub is-done : (n : Reply) → isDone n ≡ true → n ≡ Done
+is-done Done h = refl
+is-done TooLong h = absurd (false≢true h)
+is-done NotAdmitted h = absurd (false≢true h)
+is-done Stopped h = absurd (false≢true h)
+is-done NotInside h = absurd (false≢true h)
+is-done NotCarried h = absurd (false≢true h)
+is-done OutOfRange h = absurd (false≢true h)
+is-done Masked h = absurd (false≢true h)
+is-done WrongVersion h = absurd (false≢true h)
+is-done WrongLength h = absurd (false≢true h)
+
+pub is-not : (n : Reply) → isDone n ≡ false → NotZero n
+unfolding numberOf
+is-not Done h = absurd (false≢true (sym h))
+is-not TooLong h = λ e. omega arith
+is-not NotAdmitted h = λ e. omega arith
+is-not Stopped h = λ e. omega arith
+is-not NotInside h = λ e. omega arith
+is-not NotCarried h = λ e. omega arith
+is-not OutOfRange h = λ e. omega arith
+is-not Masked h = λ e. omega arith
+is-not WrongVersion h = λ e. omega arith
+is-not WrongLength h = λ e. omega arith
+
 done-not : NotZero Done → ⊥
 unfolding numberOf
 done-not h = h refl
+
+-- done is reply 0, and the only one
+pub done-is : (n : Reply) → numberOf n ≡ 0 → n ≡ Done
+done-is n e = by (isDone n) refl
+  where
+    by : (b : Bool) → isDone n ≡ b → n ≡ Done
+    by true d = is-done n d
+    by false d = absurd (is-not n d e)
+
+pub is-refused : (n : Reply) → NotZero n → isDone n ≡ false
+is-refused n h = by (isDone n) refl
+  where
+    by : (b : Bool) → isDone n ≡ b → b ≡ false
+    by true d = absurd (done-not (rw (is-done n d) at h))
+    by false d = refl
 
 module _ (given : Cpu) (m : List ℕ) where
   either : (b : Bool) (x y : Outcome) → Unchanged given m x → Unchanged given m y → Unchanged given m (cond b x y)
@@ -240,19 +281,6 @@ read-fresh : (b : List ℕ) → NotZero (readBlock b .reply) → readBlock b .cp
 unfolding readBlock
 read-fresh b h = read-by (ltb (length b) 5) (eqb (valueAt b 0 1) 1) (eqb (length b) 128 && eqb (valueAt b 1 4) 123) (saysAdmitted b) (stateAt b) h
 
-number-of : (n : Reply) → isDone n ≡ true → numberOf n ≡ 0
-unfolding numberOf
-number-of Done e = refl
-number-of TooLong e = absurd (false≢true e)
-number-of NotAdmitted e = absurd (false≢true e)
-number-of Stopped e = absurd (false≢true e)
-number-of NotInside e = absurd (false≢true e)
-number-of NotCarried e = absurd (false≢true e)
-number-of OutOfRange e = absurd (false≢true e)
-number-of Masked e = absurd (false≢true e)
-number-of WrongVersion e = absurd (false≢true e)
-number-of WrongLength e = absurd (false≢true e)
-
 store-by : (x y : Bool) (new b : List ℕ)
     → let o : Stored = cond x (cond y (record { reply = Done; bytes = new }) (record { reply = NotAdmitted; bytes = b })) (record { reply = WrongLength; bytes = b }) in
     NotZero (o .reply) → o .bytes ≡ b
@@ -271,7 +299,7 @@ load-kept f m = by (eqb (length m) imageMemory) (imageReply f)
     inner : (b : Bool) (n : Reply) → isDone n ≡ b
         → let i : Image = cond b (image n (imageBudget f) (imageState f) (imageBytes f)) (notLoaded n m) in
         NotZero n → ((i .cpu ≡ fresh) × (i .memory ≡ m)) × (i .budget ≡ 0)
-    inner true n e h = absurd (h (number-of n e))
+    inner true n e h = absurd (done-not (rw (is-done n e) at h))
     inner false n e h = ((refl, refl), refl)
 
     same : (b : Bool) (n : Reply) → cond b (image n (imageBudget f) (imageState f) (imageBytes f)) (notLoaded n m) .reply ≡ n

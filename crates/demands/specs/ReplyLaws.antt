@@ -1,5 +1,5 @@
 -- Replies by their numbers: what number a tree of tests gives, and when. Assumes nothing.
-use Prim.Native.Nat.{ℕ, zero, suc, _/_, _%_, _≤_, _<_}
+use Prim.Native.Nat.{ℕ, zero, suc, _/_, _%_, _≤_, _<_, _+_}
 use mathlib.Core.Path.{_≡_, refl, sym, ap, _∙_}
 use mathlib.Core.Bool.{Bool, true, false, cond, _&&_, false≢true}
 use mathlib.Core.List.{List, [], _∷_}
@@ -27,7 +27,8 @@ use Rattle.manual.specs.Exceptions.{setSr, handling, pcPlace, framePlace, frame
 use Rattle.instructions.specs.Perform.{statusPushed, act, perform}
 use Rattle.demands.specs.Accesses.{Access, access, Outside, SomeOutside, this, another, entryAt, returnAt, manyLongs, leaves}
 use Rattle.demands.specs.PartLaws.{refusing, missed, missed-some}
-use Rattle.demands.specs.Exact.{numbered, OneOf}
+use Rattle.word.specs.TestLaws.{by-lt}
+use Rattle.demands.specs.Exact.{numbered, vectorOf, OneOf}
 
 -- ---- equivalences
 
@@ -65,6 +66,11 @@ iff-not-eq a b = (eqb-false a b, ne-eqb a b)
 pub iff-both : (a b : Bool) → ((a && b) ≡ true) ↔ ((a ≡ true) × (b ≡ true))
 iff-both true b = (λ h. (refl, h), λ h. h .1)
 iff-both false b = (λ h. absurd (false≢true h), λ h. h .0)
+
+-- a test that says A: where it fails, A does not hold
+pub iff-not : (a : Bool) {A : Type 0} → ((a ≡ true) ↔ A) → (a ≡ false) ↔ (A → ⊥)
+iff-not true p = (λ h. absurd (false≢true (sym h)), λ n. absurd (n (p .0 refl)))
+iff-not false p = (λ h x. false≢true (p .1 x), λ n. refl)
 
 -- ---- a tree of numbers: k is given at a test, or further on
 
@@ -148,6 +154,9 @@ module _ (m : List ℕ) (l : List Access) (o : Outcome) (h : Answers m l o) wher
   pub answers-4 : (numbered o ≡ 4) ↔ SomeOutside m l
   answers-4 = rw h (iff-trans (here 4 0 (λ e. omega arith) (missed m l)) (missed-some m l))
 
+  pub answers-0 : (numbered o ≡ 0) ↔ (SomeOutside m l → ⊥)
+  answers-0 = rw h (iff-trans (here-else 0 4 (λ e. omega arith) (missed m l)) (iff-not (missed m l) (missed-some m l)))
+
   pub answers-of : (ks : List ℕ) → OneOf ks 0 → OneOf ks 4 → OneOf ks (numbered o)
   answers-of ks zero-in four-in = same-of ks h (either-of ks (missed m l) 4 0 four-in zero-in)
 
@@ -163,6 +172,9 @@ one-outside m a n = (only, λ h. this h)
     only : SomeOutside m (access a n ∷ []) → Outside m a n
     only (this h) = h
     only (another h) = absurd (no-more h)
+
+pub one-inside : (m : List ℕ) (a n : ℕ) → (SomeOutside m (access a n ∷ []) → ⊥) ↔ (a + n ≤ length m)
+one-inside m a n = (λ h. by-lt (length m) (a + n) (λ o. absurd (h (one-outside m a n .1 o))) (λ l. l), λ l h. absurd (omega (arith, one-outside m a n .0 h)))
 
 module _ (given s : Cpu) (level : Level) (vector pc : ℕ) (m : List ℕ) where
   -- A7 with the handler's status register
@@ -265,3 +277,62 @@ perform-5 s m = refl
 pub left-by-5 : (s : Cpu) (m : List ℕ) → missed m (leaves (applied s notCarried) (notCarried .action)) ≡ false
 unfolding notCarried refuse
 left-by-5 s m = refl
+
+-- ---- the vector that an outcome says: the action's, or 0 where it was refused
+
+module _ (given s : Cpu) (m : List ℕ) where
+  abbrev Says : ℕ → Outcome → Type 0
+  Says v o = numbered o ≡ 0 → o .stepped .vector ≡ v
+
+  either-says : (v : ℕ) (b : Bool) (x y : Outcome) → Says v x → Says v y → Says v (cond b x y)
+  either-says v true x y p q = p
+  either-says v false x y p q = q
+
+  refused-says : (v : ℕ) → Says v (unchanged given NotInside m)
+  unfolding numberOf refusal
+  refused-says v e = absurd (omega arith)
+
+  -- done where a test holds
+  tested-says : (b : Bool) (t : Cpu) (v : ℕ) (m′ : List ℕ) → Says v (cond b (completed t v m′) (unchanged given NotInside m))
+  tested-says b t v m′ = either-says v b (completed t v m′) (unchanged given NotInside m) (λ e. refl) (refused-says v)
+
+  entered-says : (level : Level) (vector pc : ℕ) → Says vector (entered given s level vector pc m)
+  unfolding entered
+  entered-says level vector pc =
+      let sp : ℕ = pointer given s level vector pc m in
+      either-says vector (inside m (pcPlace sp) 4) _ (unchanged given NotInside m)
+      (either-says vector (inside m (framePlace sp) 4) _ (unchanged given NotInside m)
+      (tested-says (inside m (vectorPlace (s .vbr) vector) 4) _ vector _)
+      (refused-says vector))
+      (refused-says vector)
+
+  left-says : Says 0 (left given s m)
+  unfolding left
+  left-says =
+      either-says 0 (inside m (addressOf (s .r) 7) 4) _ (unchanged given NotInside m) (tested-says (inside m (plus (addressOf (s .r) 7) 4) 4) _ 0 m) (refused-says 0)
+
+  act-says : (a : Action) → Says (vectorOf a) (act given s a m)
+  unfolding statusPushed refusal
+  act-says Nothing e = refl
+  act-says (Store a z v) e = tested-says (inside m a (bytes z)) _ 0 _ e
+  act-says (StoreMany regs a) e = tested-says (manyInside 16 m regs a) _ 0 _ e
+  act-says (LoadMany regs a) e = tested-says (manyInside 16 m regs a) _ 0 _ e
+  act-says (Enter vector pc) e = entered-says _ vector pc e
+  act-says Return e = left-says e
+  act-says (Status v) e = refl
+  act-says (Stop v) e = refl
+  act-says (PushStatus v) e = tested-says (inside m (minus (addressOf (s .r) 7) 4) 4) _ 0 _ e
+  act-says Halt e = refl
+  act-says (Other v) e = refl
+  act-says (Accumulate i scale sub x y) e = refl
+  act-says (SetAcc i v) e = refl
+  act-says (SetExt i v) e = refl
+  act-says (SetMacsr v) e = refl
+  act-says (SetMask v) e = refl
+  act-says (CopyAcc from to) e = refl
+  act-says (ClearAcc i) e = refl
+  act-says (Refuse n) e = refl
+
+pub perform-says : (s : Cpu) (c : Change) (m : List ℕ) → numbered (perform s c m) ≡ 0 → perform s c m .stepped .vector ≡ vectorOf (c .action)
+unfolding perform
+perform-says s c m e = act-says s (applied s c) m (c .action) e

@@ -4,8 +4,8 @@
 -- many steps, each of them done; a run that stops early stops at the first step that is refused. Replies 1 and 2 come first at
 -- every budget, with count 0 and the state and memory as given. Memory stays as long as it was, and its bytes stay bytes. Assumes nothing.
 use Prim.Native.Nat.{ℕ, zero, suc, _+_, _/_, _%_, _<_}
-use mathlib.Core.Path.{_≡_, refl, sym, ap, _∙_}
-use mathlib.Core.Bool.{Bool, true, false, cond, false≢true}
+use mathlib.Core.Path.{_≡_, refl, ap, _∙_}
+use mathlib.Core.Bool.{Bool, true, false, cond}
 use mathlib.Core.List.{List}
 use mathlib.Core.Logic.{_⊎_, ⊎-elim, inl, inr}
 use native.Mathlib.Omega.{arith}
@@ -13,7 +13,7 @@ use lib.Dec.{eqb}
 use lib.ListN.{length, getD}
 use Rattle.manual.specs.declared.Cpu.{Cpu}
 use Rattle.manual.specs.declared.Reply.{Reply}
-use Rattle.manual.specs.declared.Reply.the-variants.{Done, TooLong, NotAdmitted, Stopped, NotInside, NotCarried, OutOfRange, Masked, WrongVersion, WrongLength}
+use Rattle.manual.specs.declared.Reply.the-variants.{Done, TooLong, NotAdmitted, Stopped, NotInside}
 use Rattle.manual.specs.declared.Level.{Level}
 use Rattle.manual.specs.declared.Level.the-variants.{Kept}
 use Rattle.manual.specs.declared.Action.{Action}
@@ -24,13 +24,13 @@ use Rattle.manual.specs.Registers.{addressOf, general, applied}
 use Rattle.manual.specs.Memory.{inside, storeAt, manyInside, storedMany}
 use Rattle.manual.specs.Differences.{vectorPlace}
 use Rattle.manual.specs.Exceptions.{setSr, handling, pcPlace, framePlace, framed, entered, left}
-use Rattle.manual.specs.Reply.{numberOf, isDone, Outcome, completed, unchanged}
+use Rattle.manual.specs.Reply.{isDone, Outcome, completed, unchanged}
 use Rattle.manual.specs.Admitted.{admitted, tooLong}
 use Rattle.instructions.specs.Perform.{statusPushed, act, perform}
 use Rattle.instructions.specs.Step.{execute, step}
 use Rattle.instructions.specs.Run.{RunOutcome, ended, afterOne, steps, run}
 use Rattle.memory.specs.MemoryLaws.{length-store}
-use Rattle.demands.specs.Refusals.{NotZero, step-kept}
+use Rattle.demands.specs.Refusals.{NotZero, is-done, is-not, step-kept}
 use Rattle.demands.specs.ValueLaws.{store-bytes}
 
 -- n steps, all of them done, lead from s and m to s′ and m′
@@ -54,31 +54,6 @@ pub record Runs : Type 0 where
   pub ends : (budget : ℕ) (s : Cpu) (m : List ℕ) → tooLong m ≡ false → admitted s ≡ true → Ends budget (run budget s m)
 
 -- ---- the proofs
-
-is-done : (n : Reply) → isDone n ≡ true → n ≡ Done
-is-done Done h = refl
-is-done TooLong h = absurd (false≢true h)
-is-done NotAdmitted h = absurd (false≢true h)
-is-done Stopped h = absurd (false≢true h)
-is-done NotInside h = absurd (false≢true h)
-is-done NotCarried h = absurd (false≢true h)
-is-done OutOfRange h = absurd (false≢true h)
-is-done Masked h = absurd (false≢true h)
-is-done WrongVersion h = absurd (false≢true h)
-is-done WrongLength h = absurd (false≢true h)
-
-is-not : (n : Reply) → isDone n ≡ false → NotZero n
-unfolding numberOf
-is-not Done h = absurd (false≢true (sym h))
-is-not TooLong h = λ e. omega arith
-is-not NotAdmitted h = λ e. omega arith
-is-not Stopped h = λ e. omega arith
-is-not NotInside h = λ e. omega arith
-is-not NotCarried h = λ e. omega arith
-is-not OutOfRange h = λ e. omega arith
-is-not Masked h = λ e. omega arith
-is-not WrongVersion h = λ e. omega arith
-is-not WrongLength h = λ e. omega arith
 
 steps-many : (budget : ℕ) (s : Cpu) (m : List ℕ)
     → Steps (steps budget s m .ran .count) s m (steps budget s m .ran .cpu) (steps budget s m .memory) × Ends budget (steps budget s m)

@@ -25,14 +25,15 @@ use Rattle.instructions.specs.Step.{instruction, step}
 use Rattle.instructions.specs.Run.{RunOutcome, run}
 use Rattle.word.specs.TestLaws.{by-lt}
 use Rattle.memory.specs.MemoryLaws.{value-lt}
+use Rattle.demands.specs.Refusals.{done-is}
 use Rattle.demands.specs.Runs.{Ends, runs}
 use Rattle.demands.specs.Admits.{admits}
 use Rattle.demands.specs.Accesses.{Access, access, SomeOutside, reads0, reads4, reads, leaves, accesses}
 use Rattle.demands.specs.PartLaws.{missed, missed-some, missed-both, Made}
 use Rattle.demands.specs.InstructionLaws.{Excused, instruction-made, excused-refused, movec-read, movec-write, mac-fits, mac-row}
-use Rattle.demands.specs.StepLaws.{doing, fetched, not-fetched, perform-refuse}
+use Rattle.demands.specs.StepLaws.{doing, fetched, not-fetched, perform-refuse, Stepped, stepped}
 use Rattle.demands.specs.ReplyLaws as laws
-use Rattle.demands.specs.Exact.{numbered, Ready, NotCarriedWord, line-8, movec, word-operand, OneOf}
+use Rattle.demands.specs.Exact.{numbered, Ready, NotCarriedWord, line-8, movec, word-operand, vectorOf, OneOf}
 
 -- ---- the words that are not carried
 
@@ -187,6 +188,42 @@ module _ (s : Cpu) (m : List ℕ) where
       (laws.iff-and laws.iff-same
       (rw inner-number (laws.iff-trans (laws.later 4 (numbered acted) 3 (λ h. omega arith) (s .stopped)) (laws.iff-and laws.iff-same acted-4))))
 
+  acted-0 : ((j : ℕ) → getD m j 0 < 256) → (numbered acted ≡ 0) ↔ ((SomeOutside m (accesses s m) → ⊥) × (NotCarriedWord m (s .pc) op → ⊥))
+  acted-0 all = (there, back)
+    where
+      fetch-inside : (SomeOutside m (accesses s m) → ⊥) → s .pc + 2 ≤ length m
+      fetch-inside h = by-lt (length m) (s .pc + 2) (λ o. absurd (h (missed-some m (accesses s m) .0 (no-fetch (laws.iff-not-le _ _ .1 o))))) (λ l. l)
+
+      there : numbered acted ≡ 0 → (SomeOutside m (accesses s m) → ⊥) × (NotCarriedWord m (s .pc) op → ⊥)
+      there e =
+          let inside-all : SomeOutside m (accesses s m) → ⊥ = λ h. omega (arith, sym (acted-4 .1 h) ∙ e) in
+          (inside-all, λ w. omega (arith, sym (acted-5 all .1 (fetch-inside inside-all, w)) ∙ e))
+
+      none-missed : (b : Bool) → (b ≡ true → ⊥) → cond {A = ℕ} b 4 0 ≡ 0
+      none-missed true n = absurd (n refl)
+      none-missed false n = refl
+
+      back : (SomeOutside m (accesses s m) → ⊥) × (NotCarriedWord m (s .pc) op → ⊥) → numbered acted ≡ 0
+      back h =
+          ⊎-elim
+          (λ k. k ∙ none-missed (missed m (accesses s m)) (λ e. h .0 (missed-some m (accesses s m) .0 e)))
+          (λ k. absurd (h .1 (acted-5 all .0 (k .0) .1)))
+          acted-kind
+
+  pub of-step-0 : ((j : ℕ) → getD m j 0 < 256)
+      → (numbered (step s m) ≡ 0) ↔ (Ready s m × ((s .stopped ≡ false) × ((SomeOutside m (accesses s m) → ⊥) × (NotCarriedWord m (s .pc) op → ⊥))))
+  unfolding step
+  of-step-0 all =
+      laws.iff-trans (laws.checked-on s m inner 0 (λ h. omega arith) (λ h. omega arith))
+      (laws.iff-and laws.iff-same
+      (rw inner-number (laws.iff-trans (laws.later 0 (numbered acted) 3 (λ h. omega arith) (s .stopped)) (laws.iff-and laws.iff-same (acted-0 all)))))
+
+  pub of-vector : numbered (step s m) ≡ 0 → step s m .stepped .vector ≡ vectorOf (changing .action)
+  of-vector e =
+      let d : Stepped s m = stepped s m (done-is _ e) in
+      let same : step s m ≡ perform s changing m = d .same ∙ ap (λ (c : Change). perform s c m) (fetched (s .r) (s .pc) (s .sr) (s .other) (s .emac) m op (d .fetch) refl) in
+      rw same (laws.perform-says s changing m (rw same at e))
+
   pub of-step : OneOf (0 ∷ 1 ∷ 2 ∷ 3 ∷ 4 ∷ 5 ∷ []) (numbered (step s m))
   unfolding step
   of-step =
@@ -310,6 +347,21 @@ module _ (budget : ℕ) (s : Cpu) (m : List ℕ) where
       ↔ (Ready s m
       × ((ran .ran .count < budget) × ((ran .ran .cpu .stopped ≡ false) × ((pc + 2 ≤ length (ran .memory)) × NotCarriedWord (ran .memory) pc (numberAt (ran .memory) pc Word)))))
   of-run-5 all = of-run-step 5 (λ h. omega arith) (λ h. omega arith) (λ h. omega arith) (of-step-5 (ran .ran .cpu) (ran .memory) (runs .still-bytes budget s m all))
+
+  pub of-run-0 : (number ≡ 0) ↔ (Ready s m × (ran .ran .count ≡ budget))
+  unfolding numberOf
+  of-run-0 = (there, back)
+    where
+      at-end : Ready s m → Ends budget ran
+      at-end h = runs .ends budget s m (laws.iff-not-lt 0x100_0000 (length m) .1 (h .0)) (h .1)
+
+      there : number ≡ 0 → Ready s m × (ran .ran .count ≡ budget)
+      there e =
+          which (λ h. absurd (omega (arith, sym (given-1 h) ∙ e))) (λ h k. absurd (omega (arith, sym (given-2 h k) ∙ e)))
+          (λ h. (h, ⊎-elim (λ d. d .1) (λ d. absurd (d .1 .0 e)) (at-end h)))
+
+      back : Ready s m × (ran .ran .count ≡ budget) → number ≡ 0
+      back h = ⊎-elim (λ d. ap numberOf (d .0)) (λ d. absurd (omega (arith, d .0, h .1))) (at-end (h .0))
 
   pub of-run : OneOf (0 ∷ 1 ∷ 2 ∷ 3 ∷ 4 ∷ 5 ∷ []) number
   unfolding numberOf
