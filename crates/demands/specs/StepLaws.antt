@@ -124,6 +124,11 @@ stepped s m e =
 second-of : (b : Bool) → b ≡ false → (x y : Outcome) → cond b x y ≡ y
 second-of b h x y = rw h
 
+-- a step that passes the tests before its fetch
+pub step-on : (s : Cpu) (m : List ℕ) → tooLong m ≡ false → admitted s ≡ true → s .stopped ≡ false → step s m ≡ perform s (doing s m) m
+unfolding step
+step-on s m short taken awake = goes-on s m _ short taken ∙ second-of (s .stopped) awake _ _
+
 -- TRAP and RTE as steps
 pub step-trap : (s : Cpu) (m : List ℕ) (n : ℕ) → n < 16 → numberAt m (s .pc) Word ≡ 0x4E40 + n → Stepped s m
     → step s m ≡ entered s (withPc (plus (s .pc) 2) s) Kept (32 + n) (plus (s .pc) 2) m
@@ -134,9 +139,7 @@ step-trap s m n h w d =
 
 pub step-rte : (s : Cpu) (m : List ℕ) → tooLong m ≡ false → admitted s ≡ true → s .stopped ≡ false → inside m (s .pc) 2 ≡ true
     → numberAt m (s .pc) Word ≡ 0x4E73 → supervisor (s .sr) ≡ true → step s m ≡ left s (withPc (plus (s .pc) 2) s) m
-unfolding step
 step-rte s m short taken awake i w h =
-    goes-on s m _ short taken
-    ∙ second-of (s .stopped) awake _ _
+    step-on s m short taken awake
     ∙ ap (λ (c : Change). perform s c m) (fetched (s .r) (s .pc) (s .sr) (s .other) (s .emac) m 0x4E73 i w ∙ rte-word (s .r) (s .pc) (s .sr) (s .other) (s .emac) m h)
     ∙ perform-return s (plus (s .pc) 2) m
