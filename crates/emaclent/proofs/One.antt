@@ -18,12 +18,11 @@ use sound.WpLaws.{FmC, fmOf, WpFn-mono}
 use denote.RattleType.{owns}
 use denote.Laws.{Is}
 use denote.Memory.{mem}
-use denote.Plain.{uint-vals, uint-tells, uint-makes}
+use denote.Plain.{uint-vals, uint-tells}
 use denote.Builtin.{RefMutOf, u32}
 use denote.Ref.{RefT, MutRef, now, ptr-vals, mut-tells}
 use denote.Signature.{Signature, plain}
-use denote.Steps.{owned, nothing}
-use denote.Enum.Laws as EL
+use denote.Steps.{nothing}
 use denote.Triple.Statement.{Contract, Triple}
 use denote.Triple.Clauses.{Ended, Clauses, ensured, closing, lasts}
 use denote.Triple.Entry.{onEntry}
@@ -39,7 +38,7 @@ use Rattle.emaclent.specs.declared.unit.EmacAnswer.{EmacAnswer}
 use Rattle.emaclent.specs.UnitCalls.{answer}
 use Rattle.emaclent.proofs.unit.EmacAnswer as U
 use Rattle.emaclent.proofs.unit.EmacAnswer.Laws as U′
-use Rattle.emaclent.proofs.Lent.{mach, said, ref, changes, changed}
+use Rattle.emaclent.proofs.Lent.{mach, said, number, replied, ref, changes, changed}
 
 -- the call, and the function by value that it calls
 abbrev ended : Ended
@@ -91,15 +90,15 @@ module _ {M : Type 1} (𝓤 : URA M) (D : Emac → ℕ → EmacAnswer) (H : Heap
   exits r e is =
       qed W (‵ (fobs γ (T.the-row .coded .code (r .emac))) ∷ ‵ (fbor κ (Body (mem T.the-row) b o γ)) ∷ ‵ (flft κ q) ∷ []) ∵
       suffices ! _ (ends-at 𝓤 H A ended stayed (clauses 𝓤 D) W (((κ, tt), (q, tt), tt, x, at), tt) (said (r .reply)) (r .reply) (r .emac, (tt, tt)) (tt, (tt, tt))) $ says ! e $ nothing ! $ move ! (3 ∷ 0 ∷ []) $ join ! $
-      frame ! $ feqI ! (List Val) (vptr b o ∷ []) (vptr b o ∷ []) refl $ fjoin3 ! $ nothing ! $ owned ! u32 (Is u32) (uint-makes 𝓤 H A W w32) i _ (refl, i-fits) $ fjoin ! $ move ! (1 ∷ 0 ∷ []) $ fjoin ! $
-      owned ! R.the-row (Is R.the-row) (EL.makes R.the-type R′.the-plain 𝓤 H A) (r .reply) _ is $ move ! (1 ∷ 0 ∷ []) $ done !
+      frame ! $ feqI ! (List Val) (vptr b o ∷ []) (vptr b o ∷ []) refl $ fjoin3 ! $ nothing ! $ number ! i i-fits $ fjoin ! $ move ! (1 ∷ 0 ∷ []) $ fjoin ! $
+      replied ! (r .reply) is $ move ! (1 ∷ 0 ∷ []) $ done !
 
   -- what the callee's triple binds outside, what it asks, and what it ensures: it has no `&mut`, so what is said of last values is dropped
   abbrev passed : ByValue 𝓤 D H A .Ghost
   passed = ((tt, tt, tt, (h, (i, tt)), (mach h ∷ [], (vint w32 i ∷ [], tt))), tt)
 
   asked : ent 𝓤 (sem 𝓤 H A (T.the-row .own h (mach h ∷ []))) (ByValue 𝓤 D H A .pre passed)
-  asked = qed W (‵ (T.the-row .own h (mach h ∷ [])) ∷ []) ∵ nothing ! $ owned ! u32 (Is u32) (uint-makes 𝓤 H A W w32) i _ (refl, i-fits) $ fjoin ! $ move ! (1 ∷ 0 ∷ []) $ fjoin ! $ nothing ! $ join ! $ nothing ! $ move ! (1 ∷ 0 ∷ []) $ join ! $ done !
+  asked = qed W (‵ (T.the-row .own h (mach h ∷ [])) ∷ []) ∵ nothing ! $ number ! i i-fits $ fjoin ! $ move ! (1 ∷ 0 ∷ []) $ fjoin ! $ nothing ! $ join ! $ nothing ! $ move ! (1 ∷ 0 ∷ []) $ join ! $ done !
 
   abbrev ensures : EmacAnswer → SProp 𝓤
   ensures r = ensured 𝓤 H A valued (value-clauses 𝓤 D) tt (h, (i, tt)) tt r
