@@ -5,7 +5,7 @@ use exceptions::status::emac_admitted;
 use manual::Emac;
 use manual::Reply;
 ghost use mathlib.Core.Path.{_≡_};
-ghost use Rattle.emaclent.specs.UnitCalls.{accumulateCall, setMacsrCall, moveToCall, clearAccCall};
+ghost use Rattle.emaclent.specs.UnitCalls.{answer, accumulateCall, setMacsrCall, moveToCall, clearAccCall};
 
 const ACCUMULATORS: u32 = 4;
 
@@ -15,21 +15,25 @@ pub struct EmacAnswer {
     pub emac: Emac,
 }
 
+// The unit as it was.
+fn refused(e: Emac, reply: Reply) -> EmacAnswer
+    ensures { λ r. ⌜ r ≡ answer reply e ⌝ }
+{
+    EmacAnswer {
+        reply: reply,
+        emac: e,
+    }
+}
+
 // MAC, and MSAC where `sub`.
 pub fn accumulate(e: Emac, i: u32, scale: u32, sub: bool, x: u32, y: u32) -> EmacAnswer
     ensures { λ r. ⌜ r ≡ accumulateCall e i scale sub x y ⌝ }
 {
     if !emac_admitted(e) {
-        return EmacAnswer {
-            reply: Reply::NotAdmitted,
-            emac: e,
-        };
+        return refused(e, Reply::NotAdmitted);
     }
     if ACCUMULATORS <= i {
-        return EmacAnswer {
-            reply: Reply::OutOfRange,
-            emac: e,
-        };
+        return refused(e, Reply::OutOfRange);
     }
     let sum = mac::accumulate(e, i, scale, sub, x, y);
     EmacAnswer {
@@ -42,10 +46,7 @@ pub fn set_macsr(e: Emac, v: u32) -> EmacAnswer
     ensures { λ r. ⌜ r ≡ setMacsrCall e v ⌝ }
 {
     if !emac_admitted(e) {
-        return EmacAnswer {
-            reply: Reply::NotAdmitted,
-            emac: e,
-        };
+        return refused(e, Reply::NotAdmitted);
     }
     let turned = accumulators::set_macsr(e, v);
     EmacAnswer {
@@ -59,16 +60,10 @@ pub fn move_to(e: Emac, i: u32, v: u32) -> EmacAnswer
     ensures { λ r. ⌜ r ≡ moveToCall e i v ⌝ }
 {
     if !emac_admitted(e) {
-        return EmacAnswer {
-            reply: Reply::NotAdmitted,
-            emac: e,
-        };
+        return refused(e, Reply::NotAdmitted);
     }
     if ACCUMULATORS <= i {
-        return EmacAnswer {
-            reply: Reply::OutOfRange,
-            emac: e,
-        };
+        return refused(e, Reply::OutOfRange);
     }
     let moved = accumulators::move_to(e, i, v);
     EmacAnswer {
@@ -81,16 +76,10 @@ pub fn clear_acc(e: Emac, i: u32) -> EmacAnswer
     ensures { λ r. ⌜ r ≡ clearAccCall e i ⌝ }
 {
     if !emac_admitted(e) {
-        return EmacAnswer {
-            reply: Reply::NotAdmitted,
-            emac: e,
-        };
+        return refused(e, Reply::NotAdmitted);
     }
     if ACCUMULATORS <= i {
-        return EmacAnswer {
-            reply: Reply::OutOfRange,
-            emac: e,
-        };
+        return refused(e, Reply::OutOfRange);
     }
     let cleared = accumulators::clear_acc(e, i);
     EmacAnswer {

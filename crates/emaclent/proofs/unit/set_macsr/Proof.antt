@@ -6,7 +6,9 @@ use Rattle.emaclent.proofs.unit.set_macsr.Tie as tie
 
 returns : tie.Need-returns
 unfolding setMacsrCall
-returns c = rw (← c .before .emac-admitted .ensures, not-true (c .before .emac-admitted .result) (c .if1 .taken))
+returns c =
+    let c1 = c .before in let c2 = c1 .before in
+    rw (← c2 .emac-admitted .ensures, not-true (c2 .emac-admitted .result) (c1 .if1 .taken), ← c .refused .ensures)
 
 returns-2 : tie.Need-returns-2
 unfolding setMacsrCall
@@ -16,4 +18,4 @@ returns-2 c =
 
 pub set-macsr-spec : {M : Type 1} → statement M
 set-macsr-spec =
-    tie.close (tie.spec (λ c κs. search needs) returns (λ c κs. search needs) returns-2)
+    tie.close (tie.spec (λ c κs. search needs) (λ c κs. search needs) returns (λ c κs. search needs) returns-2)
