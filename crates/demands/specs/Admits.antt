@@ -40,7 +40,7 @@ use Rattle.word.specs.SignedLaws.{signed-pos, signed-neg}
 use Rattle.exceptions.specs.MaskLaws.{status-mask}
 use Rattle.exceptions.specs.AdmittedLaws.{admitted-status, admitted-emac, registers-admitted, address-admitted, other-admitted, stopped-admitted, emac-admitted, applied-admitted, set-sr-admitted, refusal-admitted, either-outcome, entered-admitted, left-admitted}
 use Rattle.emac.specs.EmacKept as emac
-use Rattle.emac.specs.CallsKept as calls
+use Rattle.emaccalls.specs.CallsKept as calls
 
 -- what an admitted state is
 pub record Means (s : Cpu) : Type 0 where

@@ -6,4 +6,3 @@ pub mod MacLaws
 pub mod FlagLaws
 pub mod EmacKept
 pub mod BlockLaws
-pub mod CallsKept

@@ -20,7 +20,7 @@ pub fn acc_of(e: Emac, i: u32) -> u64
     e.acc[j]
 }
 
-pub(crate) fn with_acc(e: Emac, i: u32, macsr: u32, a: u64) -> Emac
+pub fn with_acc(e: Emac, i: u32, macsr: u32, a: u64) -> Emac
     ensures { λ r. ⌜ r ≡ withAcc i macsr a e ⌝ }
 {
     let j = (i % 4) as usize;
@@ -30,34 +30,35 @@ pub(crate) fn with_acc(e: Emac, i: u32, macsr: u32, a: u64) -> Emac
     next
 }
 
-pub(crate) fn acc_part(fi: bool, a: u64) -> u64
-    ensures { λ r. ⌜ (r ≡ accPart fi a) × (r < 2 ^ 32) ⌝ }
+pub fn acc_part(fi: bool, a: u64) -> u32
+    ensures { λ r. ⌜ r ≡ accPart fi a ⌝ }
 {
     if fi {
-        a / 0x100 % 0x1_0000_0000
+        (a / 0x100 % 0x1_0000_0000) as u32
     } else {
-        a % 0x1_0000_0000
+        (a % 0x1_0000_0000) as u32
     }
 }
 
-pub(crate) fn ext_part(fi: bool, a: u64) -> u64
-    ensures { λ r. ⌜ (r ≡ extPart fi a) × (r < 2 ^ 32) ⌝ }
+pub fn ext_part(fi: bool, a: u64) -> u32
+    ensures { λ r. ⌜ r ≡ extPart fi a ⌝ }
 {
     if fi {
-        a / 0x100_0000_0000 * 0x100 + a % 0x100
+        (a / 0x100_0000_0000 * 0x100 + a % 0x100) as u32
     } else {
-        a / 0x1_0000_0000
+        (a / 0x1_0000_0000) as u32
     }
 }
 
-pub(crate) fn pattern_of(fi: bool, acc: u64, ext: u64) -> u64
-    requires { ⌜ (acc < 2 ^ 32) × (ext < 2 ^ 32) ⌝ }
+pub fn pattern_of(fi: bool, acc: u32, ext: u32) -> u64
     ensures { λ r. ⌜ r ≡ patternOf fi acc ext ⌝ }
 {
+    let low = acc as u64;
+    let high = ext as u64;
     if fi {
-        ext / 0x100 * 0x100_0000_0000 + acc * 0x100 + ext % 0x100
+        high / 0x100 * 0x100_0000_0000 + low * 0x100 + high % 0x100
     } else {
-        ext * 0x1_0000_0000 + acc
+        high * 0x1_0000_0000 + low
     }
 }
 
@@ -138,7 +139,7 @@ pub fn read_ext(fi: bool, e: Emac, i: u32) -> u32
 {
     let high = ext_part(fi, acc_of(e, i));
     let low = ext_part(fi, acc_of(e, i % 4 + 1));
-    (high * 0x1_0000 + low) as u32
+    ((high as u64) * 0x1_0000 + low as u64) as u32
 }
 
 fn with_ext(fi: bool, e: Emac, i: u32, ext: u32) -> Emac
@@ -146,7 +147,7 @@ fn with_ext(fi: bool, e: Emac, i: u32, ext: u32) -> Emac
 {
     let low = acc_part(fi, acc_of(e, i));
     let m = e.macsr;
-    with_acc(e, i, m, pattern_of(fi, low, ext as u64))
+    with_acc(e, i, m, pattern_of(fi, low, ext))
 }
 
 pub fn set_ext(e: Emac, i: u32, v: u32) -> Emac

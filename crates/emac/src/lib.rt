@@ -1,7 +1,6 @@
 // The multiply-accumulate unit, by value.
 pub mod accumulators;
 pub mod block;
-pub mod calls;
 pub mod flags;
 pub mod mac;
 pub mod product;

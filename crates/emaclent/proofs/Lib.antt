@@ -1,1 +1,2 @@
 mod Lent
+mod One

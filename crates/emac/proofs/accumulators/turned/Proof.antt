@@ -4,7 +4,7 @@ use Rattle.emac.proofs.accumulators.turned.Statement.{statement}
 use Rattle.emac.proofs.accumulators.turned.Tie as tie
 
 returns : tie.Need-returns
-returns c = c .pattern-of .ensures ∙ rw (c .before .before .acc-part .ensures .0, c .before .ext-part .ensures .0)
+returns c = c .pattern-of .ensures ∙ rw (c .before .before .acc-part .ensures, c .before .ext-part .ensures)
 
 pub turned-spec : {M : Type 1} → statement M
 turned-spec =

@@ -7,7 +7,7 @@ returns : tie.Need-returns
 unfolding withExt
 returns c =
     let c1 = c .before in let c2 = c1 .before in let c3 = c2 .before in
-    rw (← c3 .acc-of .ensures, ← c2 .acc-part .ensures .0, ← c1 .pattern-of .ensures, ← c .with-acc .ensures)
+    rw (← c3 .acc-of .ensures, ← c2 .acc-part .ensures, ← c1 .pattern-of .ensures, ← c .with-acc .ensures)
 
 pub with-ext-spec : {M : Type 1} → statement M
 with-ext-spec =

@@ -1,0 +1,2 @@
+pub mod UnitCalls
+pub mod UnitKept
