@@ -1,17 +1,20 @@
 -- An accumulator's number, a sum, and what is stored of it: what each way of the code is, in plain numbers. Assumes nothing.
-use mathlib.Core.Path.{_≡_, refl, sym}
+use mathlib.Core.Path.{_≡_, refl, sym, ap, _∙_}
 use mathlib.Core.Bool.{Bool, true, false, _&&_, _||_}
-use Prim.Native.Nat.{ℕ, _+_, _-_, _%_, _^_, _≤_, _<_}
+use mathlib.Core.List.{List, [], _∷_}
+use Prim.Native.Nat.{ℕ, zero, suc, _+_, _-_, _%_, _^_, _≤_, _<_}
 use native.Mathlib.Omega.{arith}
 use lib.Dec.{ltb, leb}
+use lib.ListN.{getD, set}
 use Rattle.manual.specs.declared.Mode.{Mode}
 use Rattle.manual.specs.declared.Emac.{Emac}
 use Rattle.manual.specs.Word.{modZ}
 use Rattle.manual.specs.Emac.{modeOf, pav, productOf, productOver, scaled, scaleOf, valueOf, unsigned, limit, sumOf, accOf, withAcc, flagged, settled, accumulate}
 use Rattle.word.specs.RaisedLaws.{Up, plus, minus, up-negative, out-half, out-whole, signed-up}
-use Rattle.emac.specs.Parts.{IsNumber, IsScaled, IsValue, IsSum, IsOutside, IsStored, IsSettled}
+use Rattle.emac.specs.Parts.{IsNumber, IsScaled, IsValue, IsSum, IsOutside, IsStored, IsSettled, IsSummed}
 use Rattle.emac.specs.NumberLaws.{mod48}
 use Rattle.emac.specs.declared.product.Raised.{Raised}
+use Rattle.emac.specs.declared.mac.AfterSum.{AfterSum}
 
 module _ (k : Mode) (a : ℕ) (h : a < 2 ^ 48) where
   pub value-unsigned : unsigned k ≡ true → IsValue k a (a + 0x10_0000_0000_0000)
@@ -56,25 +59,37 @@ module _ (k : Mode) (s : ℕ) where
 
 -- ---- the parts put together: o, a, p, f and r are what the code finds
 
-pub settled-is : (k : Mode) (e : Emac) (i s : ℕ) (over o : Bool) (a : ℕ) (p : Bool) (f : ℕ) (r : Emac)
-    → IsOutside k s o → IsStored k (over || o) s a → p ≡ pav (e .macsr) i → f ≡ flagged k (e .macsr) i ((over || o) || p) a
-    → r ≡ withAcc i f a e → IsSettled k e i over s r
+pub settled-is : (k : Mode) (m i s : ℕ) (over o : Bool) (a : ℕ) (p : Bool) (f : ℕ)
+    → IsOutside k s o → IsStored k (over || o) s a → p ≡ pav m i → f ≡ flagged k m i ((over || o) || p) a
+    → IsSettled k m i over s (record { macsr = f; acc = a })
 unfolding settled
-settled-is k e i s over o a p f r ho ha ep ef er = record { value = λ z u. rw (er, ef, ep, ha .value z u, ho .value z u) }
+settled-is k m i s over o a p f ho ha ep ef = record { value = λ z u e em. rw (em, ef, ep, ha .value z u, ho .value z u) }
 
-module _ (e : Emac) (i s : ℕ) (sub : Bool) (x y : ℕ) (k : Mode) (h : Bool) (ek : k ≡ modeOf (e .macsr)) (eh : h ≡ pav (e .macsr) i) where
-  pub stays : (k .omc && h) ≡ true → e ≡ accumulate e i s sub x y
-  unfolding accumulate
-  stays t = rw (← ek, ← eh, t)
+set-same : (l : List ℕ) (n : ℕ) → set l n (getD l n 0) ≡ l
+set-same [] n = refl
+set-same (x ∷ l) zero = refl
+set-same (x ∷ l) (suc n) = ap (λ (t : List ℕ). x ∷ t) (set-same l n)
 
-  module _ (t : (k .omc && h) ≡ false) (w : ℕ) (p : Raised) (v a c q : ℕ) (r : Emac)
+module _ (m a i s : ℕ) (sub : Bool) (x y : ℕ) (k : Mode) (h : Bool) (ek : k ≡ modeOf m) (eh : h ≡ pav m i) where
+  pub stays : (k .omc && h) ≡ true → IsSummed m a i s sub x y (record { macsr = m; acc = a })
+  unfolding accumulate withAcc accOf
+  stays t = record { value = λ e em ea. rw (em, ← ek, ← eh, t, ea, set-same (e .acc) (i % 4), ← em) }
+
+  module _ (t : (k .omc && h) ≡ false) (w : ℕ) (p : Raised) (v c q : ℕ) (r : AfterSum)
       (hp : IsNumber (productOf k x y) (productOver k x y) p) (ew : w ≡ scaleOf k s) (hv : IsScaled w (p .value) v)
-      (ea : a ≡ accOf e i) (hc : IsValue k a c) (hq : IsSum sub c v q) (hr : IsSettled k e i (p .over) q r) where
+      (hc : IsValue k a c) (hq : IsSum sub c v q) (hr : IsSettled k m i (p .over) q r) where
     scaled-up : Up (2 ^ 52) (scaled (scaleOf k s) (productOf k x y)) v
     scaled-up = rw (← ew) (hv .value (productOf k x y) (hp .value))
 
-    pub accumulates : r ≡ accumulate e i s sub x y
+    sum-up : Up (2 ^ 52) (sumOf k s sub x y a) q
+    sum-up = hq .value (valueOf k a) (scaled (scaleOf k s) (productOf k x y)) (hc .value) scaled-up
+
+    at-unit : (e : Emac) → e .macsr ≡ m → a ≡ accOf e i → withAcc i (r .macsr) (r .acc) e ≡ accumulate e i s sub x y
     unfolding accumulate
-    accumulates =
-        rw (← ek, ← eh, t, ← ea, ← hp .over)
-        (hr .value (sumOf k s sub x y a) (hq .value (valueOf k a) (scaled (scaleOf k s) (productOf k x y)) (hc .value) scaled-up))
+    at-unit e em ea =
+        let fk : k ≡ modeOf (e .macsr) = ek ∙ ap modeOf (sym em) in
+        let fh : h ≡ pav (e .macsr) i = eh ∙ ap (λ (n : ℕ). pav n i) (sym em) in
+        rw (← fk, ← fh, t, ← ea, ← hp .over) (hr .value (sumOf k s sub x y a) sum-up e em)
+
+    pub sums : IsSummed m a i s sub x y r
+    sums = record { value = at-unit }

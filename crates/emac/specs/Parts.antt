@@ -6,9 +6,10 @@ use lib.IntN.{ℤ, _+ℤ_, _-ℤ_}
 use Rattle.manual.specs.declared.Mode.{Mode}
 use Rattle.manual.specs.declared.Emac.{Emac}
 use Rattle.manual.specs.Word.{modZ}
-use Rattle.manual.specs.Emac.{rounded, fraction, scaled, valueOf, inRange, storedSum, settled, clamped}
+use Rattle.manual.specs.Emac.{rounded, fraction, scaled, valueOf, inRange, storedSum, accOf, withAcc, settled, accumulate, clamped}
 use Rattle.word.specs.RaisedLaws.{Up}
 use Rattle.emac.specs.declared.product.Raised.{Raised}
+use Rattle.emac.specs.declared.mac.AfterSum.{AfterSum}
 
 -- p is a product raised by 2^62, and r its fraction raised by 2^39
 pub record IsFraction (rt : Bool) (p r : ℕ) : Type 0 where
@@ -35,15 +36,18 @@ pub record IsValue (k : Mode) (a r : ℕ) : Type 0 where
 pub record IsSum (sub : Bool) (c v r : ℕ) : Type 0 where
   pub value : (z w : ℤ) → Up (2 ^ 52) z c → Up (2 ^ 52) w v → Up (2 ^ 52) (cond sub (z -ℤ w) (z +ℤ w)) r
 
--- a sum s of z: whether it is out of range, the pattern that is stored of it, and the unit after it
+-- a sum s of z: whether it is out of range, the pattern that is stored of it, and MACSR and the pattern of any unit after it
 pub record IsOutside (k : Mode) (s : ℕ) (r : Bool) : Type 0 where
   pub value : (z : ℤ) → Up (2 ^ 52) z s → r ≡ not (inRange k z)
 
 pub record IsStored (k : Mode) (out : Bool) (s r : ℕ) : Type 0 where
   pub value : (z : ℤ) → Up (2 ^ 52) z s → r ≡ storedSum k out z
 
-pub record IsSettled (k : Mode) (e : Emac) (i : ℕ) (over : Bool) (s : ℕ) (r : Emac) : Type 0 where
-  pub value : (z : ℤ) → Up (2 ^ 52) z s → r ≡ settled k e i over z
+pub record IsSettled (k : Mode) (m i : ℕ) (over : Bool) (s : ℕ) (r : AfterSum) : Type 0 where
+  pub value : (z : ℤ) → Up (2 ^ 52) z s → (e : Emac) → e .macsr ≡ m → withAcc i (r .macsr) (r .acc) e ≡ settled k e i over z
+
+pub record IsSummed (m a i s : ℕ) (sub : Bool) (x y : ℕ) (r : AfterSum) : Type 0 where
+  pub value : (e : Emac) → e .macsr ≡ m → a ≡ accOf e i → withAcc i (r .macsr) (r .acc) e ≡ accumulate e i s sub x y
 
 -- a number over m, and a number as it is read
 pub record IsRounded (rt : Bool) (m r q : ℕ) : Type 0 where

@@ -13,9 +13,9 @@ ghost use mathlib.Core.Path.{_≡_};
 ghost use mathlib.Core.Bool.{true};
 ghost use Prim.Native.Nat.{_+_, _-_, _^_, _<_, _≤_};
 ghost use Rattle.manual.specs.Word.{modZ};
-ghost use Rattle.manual.specs.Emac.{limit as limitOf, accumulate as accumulateOf};
+ghost use Rattle.manual.specs.Emac.{limit as limitOf, emacOf, accumulate as accumulateOf};
 ghost use Rattle.manual.specs.Admitted.{emacAdmitted};
-ghost use Rattle.emac.specs.Parts.{IsValue, IsSum, IsOutside, IsStored, IsSettled};
+ghost use Rattle.emac.specs.Parts.{IsValue, IsSum, IsOutside, IsStored, IsSettled, IsSummed};
 
 // The number of a pattern.
 pub(crate) fn value_of(k: Mode, a: u64) -> u64
@@ -80,14 +80,35 @@ fn stored(k: Mode, out: bool, s: u64) -> u64
     s % 0x1_0000_0000_0000
 }
 
-fn settled(k: Mode, e: Emac, i: u32, over: bool, s: u64) -> Emac
-    ensures { λ r. ⌜ IsSettled k e i over s r ⌝ }
+// MACSR and an accumulator's pattern after a sum.
+pub(crate) struct AfterSum {
+    pub(crate) macsr: u32,
+    pub(crate) acc: u64,
+}
+
+fn settled(k: Mode, m: u32, i: u32, over: bool, s: u64) -> AfterSum
+    ensures { λ r. ⌜ IsSettled k m i over s r ⌝ }
 {
-    let m = e.macsr;
     let out = over | outside(k, s);
     let a = stored(k, out, s);
     let f = flagged(k, m, i, out | pav(m, i), a);
-    with_acc(e, i, f, a)
+    AfterSum { macsr: f, acc: a }
+}
+
+// The sum of accumulator i, whose pattern is a, and x times y, scaled, or where `sub` the difference.
+fn summed(m: u32, a: u64, i: u32, scale: u32, sub: bool, x: u32, y: u32) -> AfterSum
+    requires { ⌜ a < 2 ^ 48 ⌝ }
+    ensures { λ r. ⌜ IsSummed m a i scale sub x y r ⌝ }
+{
+    let k = mode_of(m);
+    let overflowed = pav(m, i);
+    if k.omc & overflowed {
+        return AfterSum { macsr: m, acc: a };
+    }
+    let p = mac_product(k, x, y);
+    let v = scaled(scale_of(k, scale), p.value);
+    let c = value_of(k, a);
+    settled(k, m, i, p.over, sum(sub, c, v))
 }
 
 // MAC, and MSAC where `sub`: x times y, scaled, to accumulator i.
@@ -95,14 +116,26 @@ pub fn accumulate(e: Emac, i: u32, scale: u32, sub: bool, x: u32, y: u32) -> Ema
     requires { ⌜ emacAdmitted e ≡ true ⌝ }
     ensures { λ r. ⌜ r ≡ accumulateOf e i scale sub x y ⌝ }
 {
-    let m = e.macsr;
-    let k = mode_of(m);
-    let overflowed = pav(m, i);
-    if k.omc & overflowed {
-        return e;
-    }
-    let p = mac_product(k, x, y);
-    let v = scaled(scale_of(k, scale), p.value);
-    let c = value_of(k, acc_of(e, i));
-    settled(k, e, i, p.over, sum(sub, c, v))
+    let s = summed(e.macsr, acc_of(e, i), i, scale, sub, x, y);
+    with_acc(e, i, s.macsr, s.acc)
+}
+
+// The same of a unit in parts, whose accumulators change in place: MACSR after it.
+pub fn accumulate_in(
+    macsr: u32,
+    mask: u32,
+    acc: &mut [u64; 4],
+    i: u32,
+    scale: u32,
+    sub: bool,
+    x: u32,
+    y: u32,
+) -> u32
+    requires { ⌜ emacAdmitted (emacOf macsr mask (now acc)) ≡ true ⌝ }
+    ensures { λ r. ⌜ emacOf r mask (now (acc .exit)) ≡ accumulateOf (emacOf macsr mask (now (acc .entry))) i scale sub x y ⌝ }
+{
+    let j = (i % 4) as usize;
+    let s = summed(macsr, acc[j], i, scale, sub, x, y);
+    acc[j] = s.acc;
+    s.macsr
 }

@@ -24,7 +24,8 @@ use word::word::plus;
 use word::word::sign_extended;
 ghost use mathlib.Core.Path.{_≡_};
 ghost use Prim.Native.Nat.{_+_, _*_, _/_, _%_, _<_};
-ghost use Rattle.instructions.specs.Moves.{moveTo, move as moveOf, moveAddress, line1 as line1Of, line2 as line2Of, line3 as line3Of};
+ghost use Rattle.instructions.specs.Moves.{moveTo, move as moveOf, moveAddress};
+ghost use Rattle.lines0to3.specs.MoveLines.{moveSize, moveaRow, moveLine};
 
 fn move_to(
     z: Size,
@@ -44,7 +45,7 @@ fn move_to(
     put(g, next, codes, first, moved(g, o, z), place, z, v)
 }
 
-pub fn op_move(z: Size, g: &[u32; 16], at: u32, sr: u16, mem: &[u8], op: u32) -> Change
+fn op_move(z: Size, g: &[u32; 16], at: u32, sr: u16, mem: &[u8], op: u32) -> Change
     ensures { λ e. ⌜ e ≡ moveOf z (now (g .entry)) at sr (now (mem .entry)) op ⌝ }
 {
     let from = source(g, mem, plus(at, 2), op, z);
@@ -67,7 +68,7 @@ pub fn op_move(z: Size, g: &[u32; 16], at: u32, sr: u16, mem: &[u8], op: u32) ->
     }
 }
 
-pub fn op_movea(z: Size, g: &[u32; 16], at: u32, sr: u16, mem: &[u8], op: u32) -> Change
+fn op_movea(z: Size, g: &[u32; 16], at: u32, sr: u16, mem: &[u8], op: u32) -> Change
     ensures { λ e. ⌜ e ≡ moveAddress z (now (g .entry)) at sr (now (mem .entry)) op ⌝ }
 {
     let from = source(g, mem, plus(at, 2), op, z);
@@ -83,29 +84,35 @@ pub fn op_movea(z: Size, g: &[u32; 16], at: u32, sr: u16, mem: &[u8], op: u32) -
     done(next, codes, first, whole)
 }
 
-pub fn line1(row: u8, g: &[u32; 16], at: u32, sr: u16, mem: &[u8], op: u32) -> Change
-    ensures { λ e. ⌜ e ≡ line1Of row (now (g .entry)) at sr (now (mem .entry)) op ⌝ }
+// The size of a line's MOVE.
+fn move_size(line: u8) -> Size
+    ensures { λ z. ⌜ z ≡ moveSize line ⌝ }
 {
-    match row {
-        rows::MOVEA_B => op_movea(Size::Byte, g, at, sr, mem, op),
-        _ => op_move(Size::Byte, g, at, sr, mem, op),
+    match line {
+        1 => Size::Byte,
+        2 => Size::Long,
+        _ => Size::Word,
     }
 }
 
-pub fn line2(row: u8, g: &[u32; 16], at: u32, sr: u16, mem: &[u8], op: u32) -> Change
-    ensures { λ e. ⌜ e ≡ line2Of row (now (g .entry)) at sr (now (mem .entry)) op ⌝ }
+fn movea_row(line: u8) -> u8
+    ensures { λ r. ⌜ r ≡ moveaRow line ⌝ }
 {
-    match row {
-        rows::MOVEA_L => op_movea(Size::Long, g, at, sr, mem, op),
-        _ => op_move(Size::Long, g, at, sr, mem, op),
+    match line {
+        1 => rows::MOVEA_B,
+        2 => rows::MOVEA_L,
+        _ => rows::MOVEA_W,
     }
 }
 
-pub fn line3(row: u8, g: &[u32; 16], at: u32, sr: u16, mem: &[u8], op: u32) -> Change
-    ensures { λ e. ⌜ e ≡ line3Of row (now (g .entry)) at sr (now (mem .entry)) op ⌝ }
+// Lines 1, 2 and 3. Their bodies have one caller, so that a compiler puts them into the loop.
+pub fn move_line(line: u8, row: u8, g: &[u32; 16], at: u32, sr: u16, mem: &[u8], op: u32) -> Change
+    ensures { λ e. ⌜ e ≡ moveLine line row (now (g .entry)) at sr (now (mem .entry)) op ⌝ }
 {
-    match row {
-        rows::MOVEA_W => op_movea(Size::Word, g, at, sr, mem, op),
-        _ => op_move(Size::Word, g, at, sr, mem, op),
+    let z = move_size(line);
+    if row == movea_row(line) {
+        op_movea(z, g, at, sr, mem, op)
+    } else {
+        op_move(z, g, at, sr, mem, op)
     }
 }

@@ -1,3 +1,4 @@
 pub mod PerformLaws
 pub mod RunLaws
 pub mod StepLaws
+pub mod ExecuteLaws

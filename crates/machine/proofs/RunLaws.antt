@@ -16,15 +16,16 @@ use Rattle.manual.specs.declared.Size.{Size}
 use Rattle.manual.specs.declared.Reply.{Reply}
 use Rattle.manual.specs.declared.Reply.the-variants.{Done, TooLong, NotAdmitted, Stopped, NotInside, NotCarried, OutOfRange, Masked, WrongVersion, WrongLength}
 use Rattle.manual.specs.declared.Action.{Action}
-use Rattle.manual.specs.declared.Action.the-variants.{Nothing, Store}
+use Rattle.manual.specs.declared.Action.the-variants.{Nothing, Store, Accumulate}
 use Rattle.manual.specs.declared.Change.{Change}
 use Rattle.manual.specs.declared.Stepped.{Stepped}
 use Rattle.manual.specs.Word.{bytes}
-use Rattle.manual.specs.Registers.{written, coded, applied, withParts}
+use Rattle.manual.specs.Registers.{written, coded, applied, withParts, withEmac}
 use Rattle.manual.specs.Memory.{inside, stored}
+use Rattle.manual.specs.Emac.{accumulate}
 use Rattle.manual.specs.Reply.{Outcome, outcome, completed, unchanged, refusal, isDone}
 use Rattle.manual.specs.Admitted.{admitted, emacAdmitted}
-use Rattle.exceptions.specs.AdmittedLaws.{admitted-emac, applied-admitted}
+use Rattle.exceptions.specs.AdmittedLaws.{admitted-emac}
 use Rattle.instructions.specs.Perform.{perform}
 use Rattle.instructions.specs.Step.{execute, step}
 use Rattle.instructions.specs.Run.{RunOutcome, ended, afterOne, steps}
@@ -111,19 +112,16 @@ module _ (g : List ℕ) (pc sr : ℕ) (e : Emac) (rest : Cpu) (m : List ℕ) (l 
     unfolding step withParts
     any = rw (le-ltb 0x100_0000 (length m) l, a, w, ← q)
 
-    pub performed : (t : Stepped) (m′ : List ℕ) → outcome t m′ ≡ perform state c m → outcome t m′ ≡ step state m
-    performed t m′ h = h ∙ sym any
+    pub performed : (t : Stepped) (m′ : List ℕ) (s : Cpu) → s ≡ state → outcome t m′ ≡ perform s c m → outcome t m′ ≡ step state m
+    performed t m′ s p h = h ∙ ap (λ (u : Cpu). perform u c m) p ∙ sym any
 
-    pub kept : (t : Stepped) (m′ : List ℕ) → outcome t m′ ≡ perform state c m → admitted (t .cpu) ≡ true
-    kept t m′ h = ap (λ (o : Outcome). admitted (o .stepped .cpu)) h ∙ perform-admitted state c m a
+    pub kept : (t : Stepped) (m′ : List ℕ) → outcome t m′ ≡ step state m → admitted (t .cpu) ≡ true
+    kept t m′ h = ap (λ (o : Outcome). admitted (o .stepped .cpu)) (h ∙ any) ∙ perform-admitted state c m a
 
     module _ (g1 g2 : List ℕ) (sr′ : ℕ) (e1 : g1 ≡ written (c .first) g) (e2 : g2 ≡ written (c .second) g1) (e3 : sr′ ≡ coded sr (c .ccr)) where
-      pub changed : applied state c ≡ withParts g2 (c .pc) sr′ e rest
+      changed : applied state c ≡ withParts g2 (c .pc) sr′ e rest
       unfolding applied withParts
       changed = rw (← e1, ← e2, ← e3)
-
-      pub changed-admitted : admitted (withParts g2 (c .pc) sr′ e rest) ≡ true
-      changed-admitted = ap admitted (sym changed) ∙ applied-admitted state c a
 
       pub nothing : c .action ≡ Nothing → completed (withParts g2 (c .pc) sr′ e rest) 0 m ≡ step state m
       unfolding perform
@@ -133,6 +131,11 @@ module _ (g : List ℕ) (pc sr : ℕ) (e : Emac) (rest : Cpu) (m : List ℕ) (l 
           → completed (withParts g2 (c .pc) sr′ e rest) 0 m′ ≡ step state m
       unfolding perform
       storing at z v n m′ h b i p = rw (any, changed, h, ← p, ← b, le-leb _ _ i)
+
+      pub accumulating : (i s : ℕ) (sub : Bool) (x y : ℕ) (e′ : Emac) → c .action ≡ Accumulate i s sub x y → e′ ≡ accumulate e i s sub x y
+          → completed (withParts g2 (c .pc) sr′ e′ rest) 0 m ≡ step state m
+      unfolding perform withEmac withParts
+      accumulating i s sub x y e′ h p = rw (any, changed, h, p)
 
     pub outside : (at : ℕ) (z : Size) (v n : ℕ) (s : Cpu) → c .action ≡ Store at z v → n ≡ bytes z → length m < at + n → s ≡ state
         → outcome (refusedAs NotInside s) m ≡ step state m

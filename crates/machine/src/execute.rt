@@ -4,9 +4,7 @@ use address::changes::refused;
 use line4::rows4::line4;
 use linea::rowsa::linea;
 use lines0to3::line0::line0;
-use lines0to3::moves::line1;
-use lines0to3::moves::line2;
-use lines0to3::moves::line3;
+use lines0to3::moves::move_line;
 use lines5to9::line5::line5;
 use lines5to9::line6::line6;
 use lines5to9::line7::line7;
@@ -20,6 +18,7 @@ use manual::Change;
 use manual::Got;
 use manual::Size;
 use memory::load;
+use rows::line_of;
 use rows::row_of;
 ghost use mathlib.Core.Path.{_≡_};
 ghost use mathlib.Core.Bool.{true};
@@ -43,11 +42,10 @@ fn instruction(
     ensures { λ e. ⌜ e ≡ instructionOf (now (g .entry)) at sr other (emacOf macsr mask (now (acc .entry))) (now (mem .entry)) op ⌝ }
 {
     let row = row_of(op);
-    match op / 0x1000 % 16 {
+    let line = line_of(row);
+    match line {
         0 => line0(row, g, at, sr, mem, op),
-        1 => line1(row, g, at, sr, mem, op),
-        2 => line2(row, g, at, sr, mem, op),
-        3 => line3(row, g, at, sr, mem, op),
+        1 | 2 | 3 => move_line(line, row, g, at, sr, mem, op),
         4 => line4(row, g, at, sr, other, mem, op),
         5 => line5(row, g, at, sr, mem, op),
         6 => line6(row, g, at, sr, mem, op),

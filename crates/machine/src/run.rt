@@ -2,6 +2,7 @@
 use super::Progress;
 use super::execute::execute;
 use super::perform::perform;
+use emac::mac::accumulate_in;
 use exceptions::entry::refusal;
 use exceptions::status::admitted;
 use manual::Action;
@@ -21,6 +22,7 @@ ghost use mathlib.Core.Bool.{true};
 ghost use Prim.Native.Nat.{_+_, _*_, _/_, _%_, _≤_};
 ghost use lib.ListN.{length};
 ghost use Rattle.manual.specs.Registers.{withParts};
+ghost use Rattle.manual.specs.Emac.{emacOf};
 ghost use Rattle.manual.specs.Reply.{outcome};
 ghost use Rattle.manual.specs.Admitted.{admitted as admittedOf};
 ghost use Rattle.instructions.specs.Perform.{perform as performOf};
@@ -39,20 +41,21 @@ fn ended(reply: Reply, count: u32, vector: u8, cpu: Cpu) -> Progress
     }
 }
 
-// The rare actions, out of the loop.
-fn rare(
-    rest: Cpu,
-    g: [u32; 16],
-    pc: u32,
-    sr: u16,
-    emac: Emac,
-    change: Change,
-    mem: &mut [u8],
-) -> Stepped
-    requires { ⌜ admittedOf (withParts g pc sr emac rest) ≡ true ⌝ }
-    ensures { λ r. ⌜ outcome r (now (mem .exit)) ≡ performOf (withParts g pc sr emac rest) change (now (mem .entry)) ⌝ }
+// The state of its parts.
+fn together(rest: Cpu, g: [u32; 16], pc: u32, sr: u16, macsr: u32, mask: u32, acc: [u64; 4]) -> Cpu
+    ensures { λ s. ⌜ s ≡ withParts g pc sr (emacOf macsr mask acc) rest ⌝ }
 {
-    perform(with_parts(rest, g, pc, sr, emac), change, mem)
+    with_parts(
+        rest,
+        g,
+        pc,
+        sr,
+        Emac {
+            macsr: macsr,
+            mask: mask,
+            acc: acc,
+        },
+    )
 }
 
 // As many steps as the budget says, or up to one that is refused. The registers stand apart from the rest of the state, and the common
@@ -64,47 +67,38 @@ fn advanced(given: Cpu, mem: &mut [u8], budget: u32) -> Progress
     let mut g = given.r;
     let mut pc = given.pc;
     let mut sr = given.sr;
-    let mut emac = given.emac;
+    let mut macsr = given.emac.macsr;
+    let mut mask = given.emac.mask;
+    let mut acc = given.emac.acc;
     let mut rest = given;
     let mut vector: u8 = 0;
     let mut n: u32 = 0;
     while n < budget {
         let done = n + 1;
         if rest.stopped {
-            return ended(Reply::Stopped, n, 0, with_parts(rest, g, pc, sr, emac));
+            let last = together(rest, g, pc, sr, macsr, mask, acc);
+            return ended(Reply::Stopped, n, 0, last);
         }
-        let acc = emac.acc;
-        let change = execute(&g, pc, sr, rest.other, emac.macsr, emac.mask, &acc, &*mem);
+        let change = execute(&g, pc, sr, rest.other, macsr, mask, &acc, &*mem);
         let first = change.first;
         let second = change.second;
         let action = change.action;
         match action {
-            Action::Nothing => {
-                write(&mut g, first);
-                write(&mut g, second);
-                pc = change.pc;
-                sr = coded(sr, change.ccr);
-                vector = 0;
-                n = done;
-                continue;
-            }
+            Action::Nothing => {}
             Action::Store(a, z, v) => {
                 let at = a as usize;
-                if at + bytes(z) as usize <= mem.len() {
-                    store(mem, at, z, v);
-                    write(&mut g, first);
-                    write(&mut g, second);
-                    pc = change.pc;
-                    sr = coded(sr, change.ccr);
-                    vector = 0;
-                    n = done;
-                    continue;
-                } else {
-                    return ended(Reply::NotInside, n, 0, with_parts(rest, g, pc, sr, emac));
+                if mem.len() < at + bytes(z) as usize {
+                    let last = together(rest, g, pc, sr, macsr, mask, acc);
+                    return ended(Reply::NotInside, n, 0, last);
                 }
+                store(mem, at, z, v);
+            }
+            Action::Accumulate(i, scale, sub, x, y) => {
+                macsr = accumulate_in(macsr, mask, &mut acc, i, scale, sub, x, y);
             }
             _ => {
-                let stepped = rare(rest, g, pc, sr, emac, change, mem);
+                let held = together(rest, g, pc, sr, macsr, mask, acc);
+                let stepped = perform(held, change, mem);
                 let next = stepped.cpu;
                 let reply = stepped.reply;
                 let Reply::Done = reply else {
@@ -114,14 +108,23 @@ fn advanced(given: Cpu, mem: &mut [u8], budget: u32) -> Progress
                 g = next.r;
                 pc = next.pc;
                 sr = next.sr;
-                emac = next.emac;
+                macsr = next.emac.macsr;
+                mask = next.emac.mask;
+                acc = next.emac.acc;
                 vector = stepped.vector;
                 n = done;
                 continue;
             }
         }
+        write(&mut g, first);
+        write(&mut g, second);
+        pc = change.pc;
+        sr = coded(sr, change.ccr);
+        vector = 0;
+        n = done;
     }
-    ended(Reply::Done, n, vector, with_parts(rest, g, pc, sr, emac))
+    let last = together(rest, g, pc, sr, macsr, mask, acc);
+    ended(Reply::Done, n, vector, last)
 }
 
 pub fn run(cpu: Cpu, mem: &mut [u8], budget: u32) -> Ran

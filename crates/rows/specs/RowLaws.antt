@@ -1,12 +1,13 @@
 -- The row that a word takes: there is one, and one only, and `rowOf` is it; and it is a row of the word's line.
 -- Assumes nothing.
 use mathlib.Core.Path.{_≡_, sym, ap, _∙_, subst}
-use mathlib.Core.Bool.{Bool, true, false}
+use mathlib.Core.Bool.{Bool, true, false, false≢true}
 use mathlib.Core.List.{List, [], _∷_}
 use Prim.Native.Nat.{ℕ, _+_, _*_, _/_, _%_, _≤_, _<_}
 use native.Mathlib.Omega.{arith}
 use native.Mathlib.Nat.{le-refl, le-of-lt, le-of-eq, not-le-of-lt, mod-eq-of-lt, mod-mod, mod-lt, zero-lt-suc}
 use native.Mathlib.Decide.{decLt}
+use borrow.Author.Tests.{le-leb, lt-ltb}
 use lib.Bits.{bitAnd, and-shr, and-mask}
 use lib.Dec.{T, eqb, ltb, leb, eqb→eq, ltb→lt, leb→le}
 use lib.ListN.{getD, drop}
@@ -49,6 +50,21 @@ inPlace r =
 placed : T (allBelow inPlace 124)
 unfolding inPlace
 placed = tt
+
+-- a row that stands among a line's rows has the line's four bits
+alone : ℕ → ℕ → Bool
+alone r line =
+    elim (leb (firstOf line) r) [
+      | true ↦ elim (ltb r (firstOf (line + 1))) [ true ↦ eqb (value r / 0x1000) line | false ↦ true ]
+      | false ↦ true
+    ]
+
+lined : ℕ → Bool
+lined r = allBelow (alone r) 16
+
+all-lined : T (allBelow lined 124)
+unfolding lined alone
+all-lined = tt
 
 -- ---- what they show of each word
 
@@ -136,6 +152,27 @@ in-line w r h l f =
 -- so the row that a word takes is one of its line's
 pub rowOf-in-line : (w : ℕ) → w < 0x1_0000 → (firstOf (w / 0x1000) ≤ rowOf w) × (rowOf w < firstOf (w / 0x1000 + 1))
 rowOf-in-line w h = in-line w (rowOf w) h (rowOf-lt w) (rowOf-fits w h) .1
+
+-- and has its four top bits
+pub row-line : (op : ℕ) → value (rowOf op) / 0x1000 ≡ op / 0x1000 % 16
+row-line op =
+    let w : ℕ = op % 0x1_0000 in
+    let h : w < 0x1_0000 = mod-lt op (zero-lt-suc _) in
+    let q : w / 0x1000 ≡ op / 0x1000 % 16 = omega arith in
+    ap (λ (r : ℕ). value r / 0x1000) (sym (rowOf-mod op)) ∙ in-line w (rowOf w) h (rowOf-lt w) (rowOf-fits w h) .0 ∙ q
+
+where-both : (a b c : Bool) → a ≡ true → b ≡ true → T (elim a [ true ↦ elim b [ true ↦ c | false ↦ true ] | false ↦ true ]) → T c
+where-both true true c p q t = t
+where-both true false c p q t = absurd (false≢true q)
+where-both false b c p q t = absurd (false≢true p)
+
+-- which line's rows a row stands among
+pub line-at : (r line : ℕ) → r < rowCount → line < 16 → firstOf line ≤ r → r < firstOf (line + 1) → line ≡ value r / 0x1000
+unfolding lined alone
+line-at r line l k f g =
+    sym
+    (eqb→eq (value r / 0x1000) line
+    (where-both _ _ _ (le-leb (firstOf line) r f) (lt-ltb r (firstOf (line + 1)) g) (below (alone r) 16 (below lined 124 all-lined r l) line k)))
 
 -- the row of the word w is one of those from n on and below e: what a decoder knows once it has ruled out the others
 pub record Within (n e w : ℕ) : Type 0 where

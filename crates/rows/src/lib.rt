@@ -1,7 +1,8 @@
 // The row that an opcode word takes: by its line, and then by the line's rows in the order of the definition's table, those with more
 // fixed bits first. The rows stand in the code as cases, for a constant table is built on the stack again at each look into it.
 ghost use mathlib.Core.Path.{_≡_};
-ghost use Rattle.instructions.specs.Rows.{rowOf};
+ghost use Prim.Native.Nat.{_/_, _<_};
+ghost use Rattle.instructions.specs.Rows.{value, rowOf};
 ghost use Rattle.rows.specs.RowLaws.{Within};
 
 pub const BITREV: u8 = 0;
@@ -680,4 +681,58 @@ pub fn row_of(word: u32) -> u8
         14 => line_e(w),
         _ => line_f(w),
     }
+}
+
+// The line of a row, by the line's first row. A word is sent to its line by its row: where a compiler knows the row it then knows the
+// line too.
+pub fn line_of(row: u8) -> u8
+    requires { ⌜ row < 124 ⌝ }
+    ensures { λ line. ⌜ line ≡ value row / 0x1000 ⌝ }
+{
+    if row < MOVEA_B {
+        return 0;
+    }
+    if row < MOVEA_L {
+        return 1;
+    }
+    if row < MOVEA_W {
+        return 2;
+    }
+    if row < NOP {
+        return 3;
+    }
+    if row < TPF_W {
+        return 4;
+    }
+    if row < BRA {
+        return 5;
+    }
+    if row < MVS {
+        return 6;
+    }
+    if row < LINE8 {
+        return 7;
+    }
+    if row < SUBX_B {
+        return 8;
+    }
+    if row < MACSR_CCR {
+        return 9;
+    }
+    if row < CMPA_W {
+        return 10;
+    }
+    if row < MULU_W {
+        return 11;
+    }
+    if row < ADDX_B {
+        return 12;
+    }
+    if row < ASX {
+        return 13;
+    }
+    if row < WDEBUG {
+        return 14;
+    }
+    15
 }
