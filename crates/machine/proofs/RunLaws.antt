@@ -31,7 +31,7 @@ use Rattle.instructions.specs.Step.{execute, step}
 use Rattle.instructions.specs.Run.{RunOutcome, ended, afterOne, steps}
 use Rattle.machine.specs.declared.Progress.{Progress}
 use Rattle.machine.specs.Advance.{Advance, advance, endedAs, progress}
-use Rattle.machine.specs.KeptLaws.{perform-admitted}
+use Rattle.perform.specs.KeptLaws.{perform-admitted}
 
 -- ---- a run over a step, which stays shut
 

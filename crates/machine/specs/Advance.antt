@@ -6,14 +6,9 @@ use mathlib.Core.List.{List}
 use Rattle.manual.specs.declared.Cpu.{Cpu}
 use Rattle.manual.specs.declared.Reply.{Reply}
 use Rattle.manual.specs.declared.Reply.the-variants.{Done}
-use Rattle.manual.specs.declared.Stepped.{Stepped}
 use Rattle.manual.specs.Reply.{Outcome, isDone}
 use Rattle.instructions.specs.Step.{step}
 use Rattle.machine.specs.declared.Progress.{Progress}
-
--- done, and no vector was entered
-abbrev pub quietly : Cpu → Stepped
-quietly s = record { reply = Done; vector = 0; cpu = s }
 
 pub record Advance : Type 0 where
   pub came : Progress

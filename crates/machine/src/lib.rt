@@ -1,6 +1,4 @@
-// The machine: what a word changes, that change done, and steps and runs.
-pub mod execute;
-pub mod perform;
+// The machine: steps and runs.
 pub mod run;
 
 use manual::Cpu;

@@ -1,10 +1,9 @@
 // Steps and runs.
 use super::Progress;
-use super::execute::execute;
-use super::perform::perform;
 use emac::mac::accumulate_in;
 use exceptions::entry::refusal;
 use exceptions::status::admitted;
+use execute::execute;
 use manual::Action;
 use manual::Change;
 use manual::Cpu;
@@ -13,6 +12,7 @@ use manual::Ran;
 use manual::Reply;
 use manual::Stepped;
 use memory::store;
+use perform::perform;
 use word::registers::coded;
 use word::registers::with_parts;
 use word::registers::write;

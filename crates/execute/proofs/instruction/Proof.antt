@@ -3,12 +3,12 @@ use mathlib.Core.Path.{refl}
 use lib.ListN.{List·getD-eq-default}
 use Rattle.instructions.specs.Step.{instruction as instructionOf}
 use Rattle.rows.specs.RowLaws.{rowOf-lt}
-use Rattle.machine.proofs.ExecuteLaws.{line-is, moves-are, past-lines}
+use Rattle.execute.proofs.ExecuteLaws.{line-is, moves-are, past-lines}
 use borrow.Author.Needs.{needs}
-use Rattle.machine.proofs.execute.instruction.Statement.{statement}
-use Rattle.machine.proofs.execute.instruction.Tie as tie
-use Rattle.machine.proofs.execute.instruction.Reads as reads
-use Rattle.machine.proofs.execute.instruction.Lts as lts
+use Rattle.execute.proofs.instruction.Statement.{statement}
+use Rattle.execute.proofs.instruction.Tie as tie
+use Rattle.execute.proofs.instruction.Reads as reads
+use Rattle.execute.proofs.instruction.Lts as lts
 use Rattle.address.proofs.changes.not_carried.Reads as not-carried-reads
 use Rattle.line4.proofs.rows4.line4.Reads as line4-reads
 use Rattle.linea.proofs.rowsa.linea.Reads as linea-reads

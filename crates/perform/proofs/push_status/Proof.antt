@@ -1,13 +1,13 @@
 use borrow.Author.Tests.{lt-ltb, le-ltb, le-leb, lt-leb, eq-eqb, ne-eqb}
 use Rattle.instructions.specs.Perform.{statusPushed as statusPushedOf}
 use borrow.Author.Needs.{needs}
-use Rattle.machine.proofs.perform.push_status.Statement.{statement}
-use Rattle.machine.proofs.perform.push_status.Tie as tie
-use Rattle.machine.proofs.perform.push_status.Reads as reads
-use Rattle.machine.proofs.perform.push_status.Lts as lts
+use Rattle.perform.proofs.push_status.Statement.{statement}
+use Rattle.perform.proofs.push_status.Tie as tie
+use Rattle.perform.proofs.push_status.Reads as reads
+use Rattle.perform.proofs.push_status.Lts as lts
 use Rattle.exceptions.proofs.entry.refusal.Reads as refusal-reads
 use Rattle.exceptions.proofs.status.with_status.Reads as with-status-reads
-use Rattle.machine.proofs.perform.quiet.Reads as quiet-reads
+use Rattle.perform.proofs.quiet.Reads as quiet-reads
 use Rattle.memory.proofs.store.Reads as store-reads
 use Rattle.word.proofs.registers.address.Reads as address-reads
 use Rattle.word.proofs.registers.with_address.Reads as with-address-reads

@@ -36,7 +36,7 @@ ghost use Prim.Native.Nat.{_+_, _*_, _/_, _%_};
 ghost use Rattle.manual.specs.Reply.{outcome};
 ghost use Rattle.manual.specs.Admitted.{admitted};
 ghost use Rattle.instructions.specs.Perform.{statusPushed, perform as performOf};
-ghost use Rattle.machine.specs.Advance.{quietly};
+ghost use Rattle.perform.specs.Quiet.{quietly};
 
 // Done, and no vector was entered.
 fn quiet(cpu: Cpu) -> Stepped

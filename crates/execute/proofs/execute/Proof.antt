@@ -1,11 +1,11 @@
 use Rattle.instructions.specs.Step.{execute as executeOf}
 use borrow.Author.Needs.{needs}
-use Rattle.machine.proofs.execute.execute.Statement.{statement}
-use Rattle.machine.proofs.execute.execute.Tie as tie
-use Rattle.machine.proofs.execute.execute.Reads as reads
-use Rattle.machine.proofs.execute.execute.Lts as lts
+use Rattle.execute.proofs.execute.Statement.{statement}
+use Rattle.execute.proofs.execute.Tie as tie
+use Rattle.execute.proofs.execute.Reads as reads
+use Rattle.execute.proofs.execute.Lts as lts
 use Rattle.address.proofs.changes.refused.Reads as refused-reads
-use Rattle.machine.proofs.execute.instruction.Reads as instruction-reads
+use Rattle.execute.proofs.instruction.Reads as instruction-reads
 use Rattle.memory.proofs.load.Reads as load-reads
 
 -- src/execute.rt:79:11

@@ -1,12 +1,12 @@
 use mathlib.Core.Path.{sym, _∙_}
-use Rattle.machine.proofs.PerformLaws.{applied-emac}
+use Rattle.perform.proofs.PerformLaws.{applied-emac}
 use borrow.Author.Tests.{lt-ltb, le-ltb, le-leb, lt-leb, eq-eqb, ne-eqb}
 use Rattle.instructions.specs.Perform.{perform as performOf}
 use borrow.Author.Needs.{needs}
-use Rattle.machine.proofs.perform.perform.Statement.{statement}
-use Rattle.machine.proofs.perform.perform.Tie as tie
-use Rattle.machine.proofs.perform.perform.Reads as reads
-use Rattle.machine.proofs.perform.perform.Lts as lts
+use Rattle.perform.proofs.perform.Statement.{statement}
+use Rattle.perform.proofs.perform.Tie as tie
+use Rattle.perform.proofs.perform.Reads as reads
+use Rattle.perform.proofs.perform.Lts as lts
 use Rattle.emac.proofs.accumulators.clear_acc.Reads as clear-acc-reads
 use Rattle.emac.proofs.accumulators.copy_acc.Reads as copy-acc-reads
 use Rattle.emac.proofs.accumulators.move_to.Reads as move-to-reads
@@ -18,8 +18,8 @@ use Rattle.exceptions.proofs.entry.entered.Reads as entered-reads
 use Rattle.exceptions.proofs.entry.left.Reads as left-reads
 use Rattle.exceptions.proofs.entry.refusal.Reads as refusal-reads
 use Rattle.exceptions.proofs.status.with_status.Reads as with-status-reads
-use Rattle.machine.proofs.perform.push_status.Reads as push-status-reads
-use Rattle.machine.proofs.perform.quiet.Reads as quiet-reads
+use Rattle.perform.proofs.push_status.Reads as push-status-reads
+use Rattle.perform.proofs.quiet.Reads as quiet-reads
 use Rattle.memory.proofs.many.load_many.Reads as load-many-reads
 use Rattle.memory.proofs.many.many_inside.Reads as many-inside-reads
 use Rattle.memory.proofs.many.store_many.Reads as store-many-reads

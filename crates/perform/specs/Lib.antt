@@ -1,0 +1,2 @@
+pub mod KeptLaws
+pub mod Quiet

@@ -1,0 +1,7 @@
+-- What a step answers that was done and entered no vector.
+use Rattle.manual.specs.declared.Cpu.{Cpu}
+use Rattle.manual.specs.declared.Reply.the-variants.{Done}
+use Rattle.manual.specs.declared.Stepped.{Stepped}
+
+abbrev pub quietly : Cpu → Stepped
+quietly s = record { reply = Done; vector = 0; cpu = s }
