@@ -29,7 +29,8 @@ use word::word::sign_extended;
 use word::word::size_of;
 ghost use mathlib.Core.Path.{_≡_};
 ghost use Prim.Native.Nat.{_+_, _*_, _/_, _%_};
-ghost use Rattle.instructions.specs.Line9D.{toData, toPlace, toMemory, moreOrLess, toAddress, withX, line9 as line9Of, lineD as lineDOf};
+ghost use Rattle.instructions.specs.Rows.{placeIn};
+ghost use Rattle.instructions.specs.Line9D.{toData, toPlace, toMemory, moreOrLess, toAddress, withX, sums as sumsOf, line9 as line9Of, lineD as lineDOf};
 ghost use Rattle.manual.specs.Differences.{anySize};
 
 fn to_data(add: bool, g: &[u32; 16], at: u32, mem: &[u8], op: u32) -> Change
@@ -118,36 +119,48 @@ fn with_x(add: bool, g: &[u32; 16], at: u32, sr: u16, op: u32) -> Change
     )
 }
 
+// A row's place in a line, and past all places for a row of another line.
+fn place_in(first: u8, row: u8) -> u8
+    ensures { λ r. ⌜ r ≡ placeIn first row ⌝ }
+{
+    if row < first { 124 } else { row - first }
+}
+
+// Both lines by their rows: with X, three that are illegal, to An, to Dn, to memory.
+fn sums(
+    first: u8,
+    add: bool,
+    row: u8,
+    g: &[u32; 16],
+    at: u32,
+    sr: u16,
+    mem: &[u8],
+    op: u32,
+) -> Change
+    ensures { λ e. ⌜ e ≡ sumsOf first add row (now (g .entry)) at sr (now (mem .entry)) op ⌝ }
+{
+    match place_in(first, row) {
+        0 => with_x(add, g, at, sr, op),
+        1 => with_x(add, g, at, sr, op),
+        2 => with_x(add, g, at, sr, op),
+        3 => illegal(at, sr),
+        4 => illegal(at, sr),
+        5 => illegal(at, sr),
+        6 => to_address(add, Size::Word, g, at, sr, mem, op),
+        7 => to_address(add, Size::Long, g, at, sr, mem, op),
+        8 => to_data(add, g, at, mem, op),
+        _ => to_memory(add, g, at, mem, op),
+    }
+}
+
 pub fn line9(row: u8, g: &[u32; 16], at: u32, sr: u16, mem: &[u8], op: u32) -> Change
     ensures { λ e. ⌜ e ≡ line9Of row (now (g .entry)) at sr (now (mem .entry)) op ⌝ }
 {
-    match row {
-        rows::SUBX_B => with_x(false, g, at, sr, op),
-        rows::SUBX_W => with_x(false, g, at, sr, op),
-        rows::SUBX_L => with_x(false, g, at, sr, op),
-        rows::SUB_ILL_B => illegal(at, sr),
-        rows::SUB_ILL_W => illegal(at, sr),
-        rows::SUB_ILL_L => illegal(at, sr),
-        rows::SUBA_W => to_address(false, Size::Word, g, at, sr, mem, op),
-        rows::SUBA_L => to_address(false, Size::Long, g, at, sr, mem, op),
-        rows::SUB_DN => to_data(false, g, at, mem, op),
-        _ => to_memory(false, g, at, mem, op),
-    }
+    sums(rows::SUBX_B, false, row, g, at, sr, mem, op)
 }
 
 pub fn lined(row: u8, g: &[u32; 16], at: u32, sr: u16, mem: &[u8], op: u32) -> Change
     ensures { λ e. ⌜ e ≡ lineDOf row (now (g .entry)) at sr (now (mem .entry)) op ⌝ }
 {
-    match row {
-        rows::ADDX_B => with_x(true, g, at, sr, op),
-        rows::ADDX_W => with_x(true, g, at, sr, op),
-        rows::ADDX_L => with_x(true, g, at, sr, op),
-        rows::ADD_ILL_B => illegal(at, sr),
-        rows::ADD_ILL_W => illegal(at, sr),
-        rows::ADD_ILL_L => illegal(at, sr),
-        rows::ADDA_W => to_address(true, Size::Word, g, at, sr, mem, op),
-        rows::ADDA_L => to_address(true, Size::Long, g, at, sr, mem, op),
-        rows::ADD_DN => to_data(true, g, at, mem, op),
-        _ => to_memory(true, g, at, mem, op),
-    }
+    sums(rows::ADDX_B, true, row, g, at, sr, mem, op)
 }
