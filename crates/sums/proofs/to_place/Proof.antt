@@ -1,7 +1,7 @@
 use Rattle.instructions.specs.Line9D.{toPlace as toPlaceOf}
 use borrow.Author.Needs.{needs}
-use Rattle.lines5to9.proofs.line9d.to_place.Statement.{statement}
-use Rattle.lines5to9.proofs.line9d.to_place.Tie as tie
+use Rattle.sums.proofs.to_place.Statement.{statement}
+use Rattle.sums.proofs.to_place.Tie as tie
 
 enum-known-v : tie.Need-enum-known-v
 enum-known-v c = search needs

@@ -1,6 +1,6 @@
 use Rattle.instructions.specs.Line9D.{withX as withXOf}
-use Rattle.lines5to9.proofs.line9d.with_x.Statement.{statement}
-use Rattle.lines5to9.proofs.line9d.with_x.Tie as tie
+use Rattle.sums.proofs.with_x.Statement.{statement}
+use Rattle.sums.proofs.with_x.Tie as tie
 
 returns : tie.Need-returns
 unfolding withXOf

@@ -2,8 +2,8 @@ use Prim.Native.Nat.{_≤_}
 use lib.ListN.{List·getD-eq-default}
 use Rattle.word.specs.TestLaws.{past}
 use Rattle.instructions.specs.Line9D.{sums as sumsOf}
-use Rattle.lines5to9.proofs.line9d.sums.Statement.{statement}
-use Rattle.lines5to9.proofs.line9d.sums.Tie as tie
+use Rattle.lines5to9.proofs.line9d.by_row.Statement.{statement}
+use Rattle.lines5to9.proofs.line9d.by_row.Tie as tie
 
 returns : tie.Need-returns
 unfolding sumsOf
@@ -47,8 +47,8 @@ returns-10 c =
     let p : 9 ≤ c .before .before .place-in .result = past 9 _ (c .before .match .rest) in
     rw (← c .before .before .place-in .ensures, List·getD-eq-default) (c .to-memory .ensures)
 
-pub sums-spec : {M : Type 1} → statement M
-sums-spec =
+pub by-row-spec : {M : Type 1} → statement M
+by-row-spec =
     tie.close
     (tie.spec
     (λ c κs. tt)

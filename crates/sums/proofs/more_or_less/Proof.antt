@@ -1,6 +1,6 @@
 use Rattle.instructions.specs.Line9D.{moreOrLess as moreOrLessOf}
-use Rattle.lines5to9.proofs.line9d.more_or_less.Statement.{statement}
-use Rattle.lines5to9.proofs.line9d.more_or_less.Tie as tie
+use Rattle.sums.proofs.more_or_less.Statement.{statement}
+use Rattle.sums.proofs.more_or_less.Tie as tie
 
 returns : tie.Need-returns
 unfolding moreOrLessOf

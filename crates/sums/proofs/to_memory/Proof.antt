@@ -1,6 +1,6 @@
 use Rattle.instructions.specs.Line9D.{toMemory as toMemoryOf}
-use Rattle.lines5to9.proofs.line9d.to_memory.Statement.{statement}
-use Rattle.lines5to9.proofs.line9d.to_memory.Tie as tie
+use Rattle.sums.proofs.to_memory.Statement.{statement}
+use Rattle.sums.proofs.to_memory.Tie as tie
 
 returns : tie.Need-returns
 unfolding toMemoryOf
