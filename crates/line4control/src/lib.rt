@@ -28,6 +28,7 @@ ghost use mathlib.Core.Path.{_≡_};
 ghost use Prim.Native.Nat.{_+_, _*_, _/_, _%_, _<_};
 ghost use Rattle.manual.specs.Registers.{noWrite};
 ghost use Rattle.manual.specs.Change.{acting as actingOf};
+ghost use Rattle.line4control.specs.Aimed.{aim as aimOf};
 ghost use Rattle.instructions.specs.Line4.{nothing, lea as leaOf, pea as peaOf, jsr as jsrOf, jmp as jmpOf, rts as rtsOf, trap as trapOf, link as linkOf, unlk as unlkOf, many as manyOf, moveMany};
 
 pub fn nop(at: u32, sr: u16) -> Change
@@ -36,67 +37,62 @@ pub fn nop(at: u32, sr: u16) -> Change
     jump(sr, plus(at, 2))
 }
 
-pub fn lea(g: &[u32; 16], at: u32, sr: u16, mem: &[u8], op: u32) -> Change
-    ensures { λ e. ⌜ e ≡ leaOf (now (g .entry)) at sr (now (mem .entry)) op ⌝ }
+// The address that LEA, PEA, JSR and JMP work on, with the next instruction's; or the change of an instruction that gets none.
+pub enum Way {
+    To(u32, u32),
+    Ends(Change),
+}
+
+fn aim(g: &[u32; 16], at: u32, sr: u16, mem: &[u8], op: u32) -> Way
+    ensures { λ w. ⌜ w ≡ aimOf (now (g .entry)) at sr (now (mem .entry)) op ⌝ }
 {
     let pc = plus(at, 2);
     let target = operand(op / 8 % 8, op % 8);
     let Reached::At(got) = control(g, mem, pc, target) else {
-        return illegal(at, sr);
+        return Way::Ends(illegal(at, sr));
     };
-    let a = match got {
-        Got::Value(a) => a,
-        Got::Fault(x) => return refused(x),
-    };
-    let next = plus(pc, extension(target, Size::Long));
+    match got {
+        Got::Value(a) => Way::To(a, plus(pc, extension(target, Size::Long))),
+        Got::Fault(x) => Way::Ends(refused(x)),
+    }
+}
+
+pub fn lea(g: &[u32; 16], at: u32, sr: u16, mem: &[u8], op: u32) -> Change
+    ensures { λ e. ⌜ e ≡ leaOf (now (g .entry)) at sr (now (mem .entry)) op ⌝ }
+{
     let codes = kept_codes(sr);
     let none = no_write();
-    done(next, codes, none, write_address(op / 512, a))
+    match aim(g, at, sr, mem, op) {
+        Way::To(a, next) => done(next, codes, none, write_address(op / 512, a)),
+        Way::Ends(e) => e,
+    }
 }
 
 pub fn pea(g: &[u32; 16], at: u32, sr: u16, mem: &[u8], op: u32) -> Change
     ensures { λ e. ⌜ e ≡ peaOf (now (g .entry)) at sr (now (mem .entry)) op ⌝ }
 {
-    let pc = plus(at, 2);
-    let target = operand(op / 8 % 8, op % 8);
-    let Reached::At(got) = control(g, mem, pc, target) else {
-        return illegal(at, sr);
-    };
-    let a = match got {
-        Got::Value(a) => a,
-        Got::Fault(x) => return refused(x),
-    };
-    push(g, sr, plus(pc, extension(target, Size::Long)), a)
+    match aim(g, at, sr, mem, op) {
+        Way::To(a, next) => push(g, sr, next, a),
+        Way::Ends(e) => e,
+    }
 }
 
 pub fn jsr(g: &[u32; 16], at: u32, sr: u16, mem: &[u8], op: u32) -> Change
     ensures { λ e. ⌜ e ≡ jsrOf (now (g .entry)) at sr (now (mem .entry)) op ⌝ }
 {
-    let pc = plus(at, 2);
-    let target = operand(op / 8 % 8, op % 8);
-    let Reached::At(got) = control(g, mem, pc, target) else {
-        return illegal(at, sr);
-    };
-    let a = match got {
-        Got::Value(a) => a,
-        Got::Fault(x) => return refused(x),
-    };
-    push(g, sr, a, plus(pc, extension(target, Size::Long)))
+    match aim(g, at, sr, mem, op) {
+        Way::To(a, next) => push(g, sr, a, next),
+        Way::Ends(e) => e,
+    }
 }
 
 pub fn jmp(g: &[u32; 16], at: u32, sr: u16, mem: &[u8], op: u32) -> Change
     ensures { λ e. ⌜ e ≡ jmpOf (now (g .entry)) at sr (now (mem .entry)) op ⌝ }
 {
-    let pc = plus(at, 2);
-    let target = operand(op / 8 % 8, op % 8);
-    let Reached::At(got) = control(g, mem, pc, target) else {
-        return illegal(at, sr);
-    };
-    let a = match got {
-        Got::Value(a) => a,
-        Got::Fault(x) => return refused(x),
-    };
-    jump(sr, a)
+    match aim(g, at, sr, mem, op) {
+        Way::To(a, _) => jump(sr, a),
+        Way::Ends(e) => e,
+    }
 }
 
 pub fn rts(g: &[u32; 16], sr: u16, mem: &[u8]) -> Change
