@@ -1,153 +1,58 @@
 // Lines 9 and D: SUB and ADD, SUBA and ADDA, SUBX and ADDX.
-use address::changes::done;
 use address::changes::illegal;
-use address::changes::put;
-use address::changes::refused;
-use address::operands::extension;
-use address::operands::fetch;
-use address::operands::locate;
-use address::operands::moved;
-use address::operands::operand;
-use address::operands::source;
 use manual::Change;
-use manual::Fault;
-use manual::Got;
 use manual::Size;
-use word::flags::extended_codes;
-use word::flags::kept_codes;
-use word::flags::sum_codes;
-use word::flags::sum_or_difference;
-use word::registers::address_after;
-use word::registers::data;
-use word::registers::no_write;
-use word::registers::write_address;
-use word::registers::write_data;
-use word::word::merged;
-use word::word::minus;
-use word::word::plus;
-use word::word::sign_extended;
-use word::word::size_of;
+use sums::to_address;
+use sums::to_data;
+use sums::to_memory;
+use sums::with_x;
 ghost use mathlib.Core.Path.{_≡_};
 ghost use Prim.Native.Nat.{_+_, _*_, _/_, _%_};
-ghost use Rattle.instructions.specs.Line9D.{toData, toPlace, toMemory, moreOrLess, toAddress, withX, line9 as line9Of, lineD as lineDOf};
-ghost use Rattle.manual.specs.Differences.{anySize};
+ghost use Rattle.instructions.specs.Rows.{placeIn};
+ghost use Rattle.instructions.specs.Line9D.{sums as sumsOf, line9 as line9Of, lineD as lineDOf};
 
-fn to_data(add: bool, g: &[u32; 16], at: u32, mem: &[u8], op: u32) -> Change
-    ensures { λ e. ⌜ e ≡ toData add (now (g .entry)) at (now (mem .entry)) op ⌝ }
+// A row's place in a line, and past all places for a row of another line.
+fn place_in(first: u8, row: u8) -> u8
+    ensures { λ r. ⌜ r ≡ placeIn first row ⌝ }
 {
-    let z = size_of(op / 64);
-    let from = source(g, mem, plus(at, 2), op, z);
-    let got = from.got;
-    let v = match got {
-        Got::Value(v) => v,
-        Got::Fault(x) => return refused(x),
-    };
-    let next = from.next;
-    let first = from.moved;
-    let old = data(g, op / 512);
-    let r = sum_or_difference(add, z, v, old, false);
-    let codes = sum_codes(r);
-    done(
-        next,
-        codes,
-        first,
-        write_data(op / 512, merged(z, old, r.value)),
-    )
+    if row < first { 124 } else { row - first }
 }
 
-pub fn to_place(add: bool, z: Size, g: &[u32; 16], at: u32, mem: &[u8], op: u32, n: u32) -> Change
-    ensures { λ e. ⌜ e ≡ toPlace add z (now (g .entry)) at (now (mem .entry)) op n ⌝ }
+// Both lines by their rows: with X, three that are illegal, to An, to Dn, to memory.
+fn by_row(
+    first: u8,
+    add: bool,
+    row: u8,
+    g: &[u32; 16],
+    at: u32,
+    sr: u16,
+    mem: &[u8],
+    op: u32,
+) -> Change
+    ensures { λ e. ⌜ e ≡ sumsOf first add row (now (g .entry)) at sr (now (mem .entry)) op ⌝ }
 {
-    let target = operand(op / 8 % 8, op % 8);
-    let pc = plus(at, 2);
-    let place = locate(g, mem, pc, target, z);
-    let v = match fetch(g, mem, place, z) {
-        Got::Value(v) => v,
-        Got::Fault(x) => return refused(x),
-    };
-    let r = sum_or_difference(add, z, n, v, false);
-    let next = plus(pc, extension(target, z));
-    let codes = sum_codes(r);
-    let first = moved(g, target, z);
-    put(g, next, codes, first, no_write(), place, z, r.value)
-}
-
-fn to_memory(add: bool, g: &[u32; 16], at: u32, mem: &[u8], op: u32) -> Change
-    ensures { λ e. ⌜ e ≡ toMemory add (now (g .entry)) at (now (mem .entry)) op ⌝ }
-{
-    to_place(add, size_of(op / 64), g, at, mem, op, data(g, op / 512))
-}
-
-pub fn more_or_less(add: bool, old: u32, v: u32) -> u32
-    ensures { λ r. ⌜ r ≡ moreOrLess add old v ⌝ }
-{
-    if add { plus(old, v) } else { minus(old, v) }
-}
-
-fn to_address(add: bool, z: Size, g: &[u32; 16], at: u32, sr: u16, mem: &[u8], op: u32) -> Change
-    ensures { λ e. ⌜ e ≡ toAddress add z (now (g .entry)) at sr (now (mem .entry)) op ⌝ }
-{
-    let from = source(g, mem, plus(at, 2), op, z);
-    let got = from.got;
-    let v = match got {
-        Got::Value(v) => v,
-        Got::Fault(x) => return refused(x),
-    };
-    let next = from.next;
-    let first = from.moved;
-    let old = address_after(g, first, op / 512);
-    let r = more_or_less(add, old, sign_extended(z, v));
-    let codes = kept_codes(sr);
-    done(next, codes, first, write_address(op / 512, r))
-}
-
-fn with_x(add: bool, g: &[u32; 16], at: u32, sr: u16, op: u32) -> Change
-    ensures { λ e. ⌜ e ≡ withX add (now (g .entry)) at sr op ⌝ }
-{
-    let z = size_of(op / 64);
-    let old = data(g, op / 512);
-    let r = sum_or_difference(add, z, data(g, op), old, sr / 16 % 2 == 1);
-    let next = plus(at, 2);
-    let codes = extended_codes(sr, r);
-    let none = no_write();
-    done(
-        next,
-        codes,
-        none,
-        write_data(op / 512, merged(z, old, r.value)),
-    )
+    match place_in(first, row) {
+        0 => with_x(add, g, at, sr, op),
+        1 => with_x(add, g, at, sr, op),
+        2 => with_x(add, g, at, sr, op),
+        3 => illegal(at, sr),
+        4 => illegal(at, sr),
+        5 => illegal(at, sr),
+        6 => to_address(add, Size::Word, g, at, sr, mem, op),
+        7 => to_address(add, Size::Long, g, at, sr, mem, op),
+        8 => to_data(add, g, at, mem, op),
+        _ => to_memory(add, g, at, mem, op),
+    }
 }
 
 pub fn line9(row: u8, g: &[u32; 16], at: u32, sr: u16, mem: &[u8], op: u32) -> Change
     ensures { λ e. ⌜ e ≡ line9Of row (now (g .entry)) at sr (now (mem .entry)) op ⌝ }
 {
-    match row {
-        rows::SUBX_B => with_x(false, g, at, sr, op),
-        rows::SUBX_W => with_x(false, g, at, sr, op),
-        rows::SUBX_L => with_x(false, g, at, sr, op),
-        rows::SUB_ILL_B => illegal(at, sr),
-        rows::SUB_ILL_W => illegal(at, sr),
-        rows::SUB_ILL_L => illegal(at, sr),
-        rows::SUBA_W => to_address(false, Size::Word, g, at, sr, mem, op),
-        rows::SUBA_L => to_address(false, Size::Long, g, at, sr, mem, op),
-        rows::SUB_DN => to_data(false, g, at, mem, op),
-        _ => to_memory(false, g, at, mem, op),
-    }
+    by_row(rows::SUBX_B, false, row, g, at, sr, mem, op)
 }
 
 pub fn lined(row: u8, g: &[u32; 16], at: u32, sr: u16, mem: &[u8], op: u32) -> Change
     ensures { λ e. ⌜ e ≡ lineDOf row (now (g .entry)) at sr (now (mem .entry)) op ⌝ }
 {
-    match row {
-        rows::ADDX_B => with_x(true, g, at, sr, op),
-        rows::ADDX_W => with_x(true, g, at, sr, op),
-        rows::ADDX_L => with_x(true, g, at, sr, op),
-        rows::ADD_ILL_B => illegal(at, sr),
-        rows::ADD_ILL_W => illegal(at, sr),
-        rows::ADD_ILL_L => illegal(at, sr),
-        rows::ADDA_W => to_address(true, Size::Word, g, at, sr, mem, op),
-        rows::ADDA_L => to_address(true, Size::Long, g, at, sr, mem, op),
-        rows::ADD_DN => to_data(true, g, at, mem, op),
-        _ => to_memory(true, g, at, mem, op),
-    }
+    by_row(rows::ADDX_B, true, row, g, at, sr, mem, op)
 }

@@ -2,15 +2,11 @@ use borrow.Author.Tests.{lt-ltb, le-ltb, le-leb, lt-leb, eq-eqb, ne-eqb}
 use Rattle.instructions.specs.LineA.{loadAddress as loadAddressOf}
 use Rattle.linea.proofs.mac.load_address.Statement.{statement}
 use Rattle.linea.proofs.mac.load_address.Tie as tie
-use Rattle.linea.proofs.mac.load_address.Reads as reads
-use Rattle.linea.proofs.mac.load_address.Lts as lts
 
--- src/mac.rt:55:1
 returns : tie.Need-returns
 unfolding loadAddressOf
 returns c = rw (eq-eqb _ _ (c .if1 .taken))
 
--- src/mac.rt:55:1
 returns-2 : tie.Need-returns-2
 unfolding loadAddressOf
 returns-2 c = rw (ne-eqb _ _ (c .if1 .left))

@@ -3,114 +3,39 @@ use Rattle.instructions.specs.LineA.{macWithLoad as macWithLoadOf}
 use borrow.Author.Needs.{needs}
 use Rattle.linea.proofs.mac.mac_with_load.Statement.{statement}
 use Rattle.linea.proofs.mac.mac_with_load.Tie as tie
-use Rattle.linea.proofs.mac.mac_with_load.Reads as reads
-use Rattle.linea.proofs.mac.mac_with_load.Lts as lts
-use Rattle.address.proofs.changes.enter.Reads as enter-reads
-use Rattle.address.proofs.changes.not_carried.Reads as not-carried-reads
-use Rattle.address.proofs.changes.refused.Reads as refused-reads
-use Rattle.linea.proofs.mac.mac_load.Reads as mac-load-reads
-use Rattle.memory.proofs.load.Reads as load-reads
-use Rattle.word.proofs.registers.address.Reads as address-reads
-use Rattle.word.proofs.word.minus.Reads as minus-reads
-use Rattle.word.proofs.word.plus.Reads as plus-reads
-use Rattle.word.proofs.word.sign_extended.Reads as sign-extended-reads
 
--- src/mac.rt:97:9
-address-requires : tie.Need-address-requires
-address-requires c κs = search needs
-
--- src/mac.rt:99:9
-enter-requires : tie.Need-enter-requires
-enter-requires c κs = search needs
-
--- src/mac.rt:99:9
 returns : tie.Need-returns
 unfolding macWithLoadOf
 returns c = rw (← c .before .before .address .ensures, lt-ltb _ _ (c .before .if1 .taken), ← c .enter .ensures)
 
--- src/mac.rt:102:9
-not-carried-requires : tie.Need-not-carried-requires
-not-carried-requires c κs = search needs
-
--- src/mac.rt:102:9
 returns-2 : tie.Need-returns-2
 unfolding macWithLoadOf
 returns-2 c = rw (← c .before .before .before .address .ensures, le-ltb _ _ (c .before .before .if1 .left), eq-eqb _ _ (c .before .if2 .taken), ← c .not-carried .ensures)
 
--- src/mac.rt:105:33
-plus-requires : tie.Need-plus-requires
-plus-requires c κs = search needs
-
--- src/mac.rt:105:23
-load-requires : tie.Need-load-requires
-load-requires c κs = search needs
-
--- src/mac.rt:106:24
 enum-known-d : tie.Need-enum-known-d
 enum-known-d c = search needs
 
--- src/mac.rt:107:24
 enum-known-x : tie.Need-enum-known-x
 enum-known-x c = search needs
 
--- src/mac.rt:107:30
-refused-requires : tie.Need-refused-requires
-refused-requires c κs = search needs
-
--- src/mac.rt:107:30
 returns-3 : tie.Need-returns-3
 unfolding macWithLoadOf
 returns-3 c =
     let c1 = c .before in let c2 = c1 .before in let c3 = c2 .before in let c4 = c3 .before in let c5 = c4 .before in let c6 = c5 .before in let c7 = c6 .before in let c8 = c7 .before in let c9 = c8 .before in
     rw (← c9 .address .ensures, le-ltb _ _ (c8 .if1 .left), ne-eqb _ _ (c7 .if2 .left), eq-eqb _ _ (c6 .if3 .taken), ← c5 .plus .ensures, ← c4 .load .ensures, c2 .x .given .1, ← c .refused .ensures)
 
--- src/mac.rt:109:28
-sign-extended-requires : tie.Need-sign-extended-requires
-sign-extended-requires c κs = search needs
-
--- src/mac.rt:109:13
-plus-requires-2 : tie.Need-plus-requires-2
-plus-requires-2 c κs = search needs
-
--- src/mac.rt:110:28
-plus-requires-3 : tie.Need-plus-requires-3
-plus-requires-3 c κs = search needs
-
--- src/mac.rt:110:9
-mac-load-requires : tie.Need-mac-load-requires
-mac-load-requires c κs = search needs
-
--- src/mac.rt:110:9
 returns-4 : tie.Need-returns-4
 unfolding macWithLoadOf
 returns-4 c =
     let c1 = c .before in let c2 = c1 .before in let c3 = c2 .before in let c4 = c3 .before in let c5 = c4 .before in let c6 = c5 .before in let c7 = c6 .before in let c8 = c7 .before in let c9 = c8 .before in let c10 = c9 .before in let c11 = c10 .before in let c12 = c11 .before in
     rw (← c12 .address .ensures, le-ltb _ _ (c11 .if1 .left), ne-eqb _ _ (c10 .if2 .left), eq-eqb _ _ (c9 .if3 .taken), ← c8 .plus .ensures, ← c7 .load .ensures, c5 .d .given .1, ← c3 .sign-extended .ensures, ← c2 .plus2 .ensures, ← c1 .plus3 .ensures, ← c .mac-load .ensures)
 
--- src/mac.rt:112:9
-plus-requires-4 : tie.Need-plus-requires-4
-plus-requires-4 c κs = search needs
-
--- src/mac.rt:114:49
-minus-requires : tie.Need-minus-requires
-minus-requires c κs = search needs
-
--- src/mac.rt:114:9
-mac-load-requires-2 : tie.Need-mac-load-requires-2
-mac-load-requires-2 c κs = search needs
-
--- src/mac.rt:116:9
-mac-load-requires-3 : tie.Need-mac-load-requires-3
-mac-load-requires-3 c κs = search needs
-
--- src/mac.rt:93:1
 returns-5 : tie.Need-returns-5
 unfolding macWithLoadOf
 returns-5 c =
     let c1 = c .before in let c2 = c1 .before in let c3 = c2 .before in let c4 = c3 .before in let c5 = c4 .before in let c6 = c5 .before in let c7 = c6 .before in
     rw (← c7 .address .ensures, le-ltb _ _ (c6 .if1 .left), ne-eqb _ _ (c5 .if2 .left), ne-eqb _ _ (c4 .if3 .left), ← c3 .plus4 .ensures, eq-eqb _ _ (c2 .if4 .taken), ← c1 .minus .ensures, ← c .mac-load2 .ensures)
 
--- src/mac.rt:93:1
 returns-6 : tie.Need-returns-6
 unfolding macWithLoadOf
 returns-6 c =
@@ -121,25 +46,25 @@ pub mac-with-load-spec : {M : Type 1} → statement M
 mac-with-load-spec =
     tie.close
     (tie.spec
-    address-requires
-    enter-requires
+    (λ c κs. tt)
+    (λ c κs. tt)
     returns
-    not-carried-requires
+    (λ c κs. tt)
     returns-2
-    plus-requires
-    load-requires
+    (λ c κs. tt)
+    (λ c κs. tt)
     enum-known-d
     enum-known-x
-    refused-requires
+    (λ c κs. tt)
     returns-3
-    sign-extended-requires
-    plus-requires-2
-    plus-requires-3
-    mac-load-requires
+    (λ c κs. tt)
+    (λ c κs. tt)
+    (λ c κs. tt)
+    (λ c κs. tt)
     returns-4
-    plus-requires-4
-    minus-requires
-    mac-load-requires-2
-    mac-load-requires-3
+    (λ c κs. tt)
+    (λ c κs. tt)
+    (λ c κs. tt)
+    (λ c κs. tt)
     returns-5
     returns-6)

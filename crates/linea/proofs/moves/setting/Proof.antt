@@ -2,45 +2,34 @@ use Rattle.instructions.specs.LineA.{setting as settingOf}
 use borrow.Author.Needs.{needs}
 use Rattle.linea.proofs.moves.setting.Statement.{statement}
 use Rattle.linea.proofs.moves.setting.Tie as tie
-use Rattle.linea.proofs.moves.setting.Reads as reads
-use Rattle.linea.proofs.moves.setting.Lts as lts
 
--- src/moves.rt:63:41
 enum-told : tie.Need-enum-told
 enum-told c = search needs
 
--- src/moves.rt:64:41
 enum-told-2 : tie.Need-enum-told-2
 enum-told-2 c = search needs
 
--- src/moves.rt:64:41
 mul-t9 : tie.Need-mul-t9
 mul-t9 c = search needs
 
--- src/moves.rt:65:28
 enum-told-3 : tie.Need-enum-told-3
 enum-told-3 c = search needs
 
--- src/moves.rt:66:27
 enum-told-4 : tie.Need-enum-told-4
 enum-told-4 c = search needs
 
--- src/moves.rt:59:1
 returns : tie.Need-returns
 unfolding settingOf
 returns c = rw (c .enum-told .given .1)
 
--- src/moves.rt:59:1
 returns-2 : tie.Need-returns-2
 unfolding settingOf
 returns-2 c = rw (c .enum-told2 .given .1)
 
--- src/moves.rt:59:1
 returns-3 : tie.Need-returns-3
 unfolding settingOf
 returns-3 c = rw (c .enum-told3 .given .1)
 
--- src/moves.rt:59:1
 returns-4 : tie.Need-returns-4
 unfolding settingOf
 returns-4 c = rw (c .enum-told4 .given .1)

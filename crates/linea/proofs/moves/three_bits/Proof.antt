@@ -2,15 +2,11 @@ use borrow.Author.Tests.{lt-ltb, le-ltb, le-leb, lt-leb, eq-eqb, ne-eqb}
 use Rattle.instructions.specs.LineA.{threeBits as threeBitsOf}
 use Rattle.linea.proofs.moves.three_bits.Statement.{statement}
 use Rattle.linea.proofs.moves.three_bits.Tie as tie
-use Rattle.linea.proofs.moves.three_bits.Reads as reads
-use Rattle.linea.proofs.moves.three_bits.Lts as lts
 
--- src/moves.rt:84:1
 returns : tie.Need-returns
 unfolding threeBitsOf
 returns c = rw (eq-eqb _ _ (c .if1 .taken))
 
--- src/moves.rt:84:1
 returns-2 : tie.Need-returns-2
 unfolding threeBitsOf
 returns-2 c = rw (ne-eqb _ _ (c .if1 .left))

@@ -2,45 +2,19 @@ use Rattle.instructions.specs.LineA.{unassigned as unassignedOf}
 use borrow.Author.Needs.{needs}
 use Rattle.linea.proofs.moves.unassigned.Statement.{statement}
 use Rattle.linea.proofs.moves.unassigned.Tie as tie
-use Rattle.linea.proofs.moves.unassigned.Reads as reads
-use Rattle.linea.proofs.moves.unassigned.Lts as lts
-use Rattle.address.proofs.changes.enter_after.Reads as enter-after-reads
-use Rattle.address.proofs.changes.refused.Reads as refused-reads
-use Rattle.address.proofs.operands.source.Reads as source-reads
-use Rattle.word.proofs.word.plus.Reads as plus-reads
 
--- src/moves.rt:107:31
-plus-requires : tie.Need-plus-requires
-plus-requires c κs = search needs
-
--- src/moves.rt:107:9
-source-requires : tie.Need-source-requires
-source-requires c κs = search needs
-
--- src/moves.rt:111:26
 enum-told : tie.Need-enum-told
 enum-told c = search needs
 
--- src/moves.rt:111:26
-enter-after-requires : tie.Need-enter-after-requires
-enter-after-requires c κs = search needs
-
--- src/moves.rt:112:20
 enum-known-got : tie.Need-enum-known-got
 enum-known-got c = search needs
 
--- src/moves.rt:112:26
-refused-requires : tie.Need-refused-requires
-refused-requires c κs = search needs
-
--- src/moves.rt:104:1
 returns : tie.Need-returns
 unfolding unassignedOf
 returns c =
     let c1 = c .before in let c2 = c1 .before in let c3 = c2 .before in let c4 = c3 .before in let c5 = c4 .before in
     rw (← c5 .plus .ensures, ← c4 .source .ensures, c1 .enum-told .given .1, ← c .enter-after .ensures)
 
--- src/moves.rt:104:1
 returns-2 : tie.Need-returns-2
 unfolding unassignedOf
 returns-2 c =
@@ -51,11 +25,11 @@ pub unassigned-spec : {M : Type 1} → statement M
 unassigned-spec =
     tie.close
     (tie.spec
-    plus-requires
-    source-requires
+    (λ c κs. tt)
+    (λ c κs. tt)
     enum-told
-    enter-after-requires
+    (λ c κs. tt)
     enum-known-got
-    refused-requires
+    (λ c κs. tt)
     returns
     returns-2)

@@ -6,95 +6,51 @@ use lib.ListN.{List·getD-eq-default}
 use Rattle.word.specs.TestLaws.{other-row}
 use Rattle.instructions.specs.Rows.{placeIn}
 use Rattle.instructions.specs.Line5.{line5 as line5Of}
-use Rattle.instructions.specs.Line5.{line5 as line5Of}
 use borrow.Author.Needs.{needs}
 use Rattle.lines5to9.proofs.line5.line5.Statement.{statement}
 use Rattle.lines5to9.proofs.line5.line5.Tie as tie
-use Rattle.lines5to9.proofs.line5.line5.Reads as reads
-use Rattle.lines5to9.proofs.line5.line5.Lts as lts
-use Rattle.address.proofs.changes.illegal.Reads as illegal-reads
-use Rattle.lines5to9.proofs.line5.quick.Reads as quick-reads
-use Rattle.lines5to9.proofs.line5.quick_address.Reads as quick-address-reads
-use Rattle.lines5to9.proofs.line5.scc.Reads as scc-reads
-use Rattle.lines5to9.proofs.line5.skip.Reads as skip-reads
 
--- src/line5.rt:101:24
 skip-requires : tie.Need-skip-requires
 skip-requires c κs = search needs
 
--- src/line5.rt:102:24
 skip-requires-2 : tie.Need-skip-requires-2
 skip-requires-2 c κs = search needs
 
--- src/line5.rt:103:22
 skip-requires-3 : tie.Need-skip-requires-3
 skip-requires-3 c κs = search needs
 
--- src/line5.rt:104:28
-quick-address-requires : tie.Need-quick-address-requires
-quick-address-requires c κs = search needs
-
--- src/line5.rt:105:28
-quick-address-requires-2 : tie.Need-quick-address-requires-2
-quick-address-requires-2 c κs = search needs
-
--- src/line5.rt:106:28
-quick-address-requires-3 : tie.Need-quick-address-requires-3
-quick-address-requires-3 c κs = search needs
-
--- src/line5.rt:107:22
-scc-requires : tie.Need-scc-requires
-scc-requires c κs = search needs
-
--- src/line5.rt:108:27
-illegal-requires : tie.Need-illegal-requires
-illegal-requires c κs = search needs
-
--- src/line5.rt:109:14
-quick-requires : tie.Need-quick-requires
-quick-requires c κs = search needs
-
--- src/line5.rt:97:1
 returns : tie.Need-returns
 unfolding line5Of placeIn
 returns c = rw (c .before .match .keys1, ← c .skip .ensures)
 
--- src/line5.rt:97:1
 returns-2 : tie.Need-returns-2
 unfolding line5Of placeIn
 returns-2 c = rw (c .before .match .keys2, ← c .skip2 .ensures)
 
--- src/line5.rt:97:1
 returns-3 : tie.Need-returns-3
 unfolding line5Of placeIn
 returns-3 c = rw (c .before .match .keys3, ← c .skip3 .ensures)
 
--- src/line5.rt:97:1
 returns-4 : tie.Need-returns-4
 unfolding line5Of placeIn
 returns-4 c = rw (c .before .match .keys4, ← c .quick-address .ensures)
 
--- src/line5.rt:97:1
 returns-5 : tie.Need-returns-5
 unfolding line5Of placeIn
 returns-5 c = rw (c .before .match .keys5, ← c .quick-address2 .ensures)
 
--- src/line5.rt:97:1
 returns-6 : tie.Need-returns-6
 unfolding line5Of placeIn
 returns-6 c = rw (c .before .match .keys6, ← c .quick-address3 .ensures)
 
--- src/line5.rt:97:1
 returns-7 : tie.Need-returns-7
 unfolding line5Of placeIn
 returns-7 c = rw (c .before .match .keys7, ← c .scc .ensures)
 
--- src/line5.rt:97:1
 returns-8 : tie.Need-returns-8
 unfolding line5Of placeIn
 returns-8 c = rw (c .before .match .keys8, ← c .illegal .ensures)
 
--- src/line5.rt:97:1
 returns-9 : tie.Need-returns-9
 unfolding line5Of placeIn
 returns-9 c =
@@ -109,12 +65,12 @@ line5-spec =
     skip-requires
     skip-requires-2
     skip-requires-3
-    quick-address-requires
-    quick-address-requires-2
-    quick-address-requires-3
-    scc-requires
-    illegal-requires
-    quick-requires
+    (λ c κs. tt)
+    (λ c κs. tt)
+    (λ c κs. tt)
+    (λ c κs. tt)
+    (λ c κs. tt)
+    (λ c κs. tt)
     returns
     returns-2
     returns-3

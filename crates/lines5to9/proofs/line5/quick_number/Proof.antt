@@ -2,15 +2,11 @@ use borrow.Author.Tests.{lt-ltb, le-ltb, le-leb, lt-leb, eq-eqb, ne-eqb}
 use Rattle.instructions.specs.Line5.{quickNumber as quickNumberOf}
 use Rattle.lines5to9.proofs.line5.quick_number.Statement.{statement}
 use Rattle.lines5to9.proofs.line5.quick_number.Tie as tie
-use Rattle.lines5to9.proofs.line5.quick_number.Reads as reads
-use Rattle.lines5to9.proofs.line5.quick_number.Lts as lts
 
--- src/line5.rt:26:1
 returns : tie.Need-returns
 unfolding quickNumberOf
 returns c = rw (eq-eqb _ _ (c .if1 .taken))
 
--- src/line5.rt:26:1
 returns-2 : tie.Need-returns-2
 unfolding quickNumberOf
 returns-2 c = rw (ne-eqb _ _ (c .if1 .left))

@@ -2,74 +2,25 @@ use Rattle.instructions.specs.Line6.{bcc as bccOf}
 use borrow.Author.Needs.{needs}
 use Rattle.lines5to9.proofs.line6.bcc.Statement.{statement}
 use Rattle.lines5to9.proofs.line6.bcc.Tie as tie
-use Rattle.lines5to9.proofs.line6.bcc.Reads as reads
-use Rattle.lines5to9.proofs.line6.bcc.Lts as lts
-use Rattle.address.proofs.changes.jump.Reads as jump-reads
-use Rattle.address.proofs.changes.refused.Reads as refused-reads
-use Rattle.lines5to9.proofs.line6.displacement.Reads as displacement-reads
-use Rattle.lines5to9.proofs.line6.displacement_bytes.Reads as displacement-bytes-reads
-use Rattle.word.proofs.conditions.condition.Reads as condition-reads
-use Rattle.word.proofs.word.plus.Reads as plus-reads
 
--- src/line6.rt:70:9
-plus-requires : tie.Need-plus-requires
-plus-requires c κs = search needs
-
--- src/line6.rt:71:19
-displacement-requires : tie.Need-displacement-requires
-displacement-requires c κs = search needs
-
--- src/line6.rt:72:20
 enum-known-d : tie.Need-enum-known-d
 enum-known-d c = search needs
 
--- src/line6.rt:73:20
 enum-known-x : tie.Need-enum-known-x
 enum-known-x c = search needs
 
--- src/line6.rt:73:26
-refused-requires : tie.Need-refused-requires
-refused-requires c κs = search needs
-
--- src/line6.rt:73:26
 returns : tie.Need-returns
 unfolding bccOf
 returns c =
     let c1 = c .before in let c2 = c1 .before in let c3 = c2 .before in let c4 = c3 .before in let c5 = c4 .before in
     rw (← c5 .plus .ensures, ← c4 .displacement .ensures, c2 .x .given .1, ← c .refused .ensures)
 
--- src/line6.rt:75:8
-condition-requires : tie.Need-condition-requires
-condition-requires c κs = search needs
-
--- src/line6.rt:76:18
-plus-requires-2 : tie.Need-plus-requires-2
-plus-requires-2 c κs = search needs
-
--- src/line6.rt:76:9
-jump-requires : tie.Need-jump-requires
-jump-requires c κs = search needs
-
--- src/line6.rt:78:27
-displacement-bytes-requires : tie.Need-displacement-bytes-requires
-displacement-bytes-requires c κs = search needs
-
--- src/line6.rt:78:18
-plus-requires-3 : tie.Need-plus-requires-3
-plus-requires-3 c κs = search needs
-
--- src/line6.rt:78:9
-jump-requires-2 : tie.Need-jump-requires-2
-jump-requires-2 c κs = search needs
-
--- src/line6.rt:67:1
 returns-2 : tie.Need-returns-2
 unfolding bccOf
 returns-2 c =
     let c1 = c .before in let c2 = c1 .before in let c3 = c2 .before in let c4 = c3 .before in let c5 = c4 .before in let c6 = c5 .before in let c7 = c6 .before in let c8 = c7 .before in
     rw (← c8 .plus .ensures, ← c7 .displacement .ensures, c5 .d .given .1, ← c3 .condition .ensures, c2 .if1 .taken, ← c1 .plus2 .ensures, ← c .jump .ensures)
 
--- src/line6.rt:67:1
 returns-3 : tie.Need-returns-3
 unfolding bccOf
 returns-3 c =
@@ -80,17 +31,17 @@ pub bcc-spec : {M : Type 1} → statement M
 bcc-spec =
     tie.close
     (tie.spec
-    plus-requires
-    displacement-requires
+    (λ c κs. tt)
+    (λ c κs. tt)
     enum-known-d
     enum-known-x
-    refused-requires
+    (λ c κs. tt)
     returns
-    condition-requires
-    plus-requires-2
-    jump-requires
-    displacement-bytes-requires
-    plus-requires-3
-    jump-requires-2
+    (λ c κs. tt)
+    (λ c κs. tt)
+    (λ c κs. tt)
+    (λ c κs. tt)
+    (λ c κs. tt)
+    (λ c κs. tt)
     returns-2
     returns-3)

@@ -3,55 +3,29 @@ use Rattle.instructions.specs.Line6.{displacement as displacementOf}
 use borrow.Author.Needs.{needs}
 use Rattle.lines5to9.proofs.line6.displacement.Statement.{statement}
 use Rattle.lines5to9.proofs.line6.displacement.Tie as tie
-use Rattle.lines5to9.proofs.line6.displacement.Reads as reads
-use Rattle.lines5to9.proofs.line6.displacement.Lts as lts
-use Rattle.memory.proofs.load.Reads as load-reads
-use Rattle.word.proofs.word.sign_extended.Reads as sign-extended-reads
 
--- src/line6.rt:21:15
-load-requires : tie.Need-load-requires
-load-requires c κs = search needs
-
--- src/line6.rt:22:24
 enum-known-v : tie.Need-enum-known-v
 enum-known-v c = search needs
 
--- src/line6.rt:22:41
-sign-extended-requires : tie.Need-sign-extended-requires
-sign-extended-requires c κs = search needs
-
--- src/line6.rt:23:24
 enum-known-x : tie.Need-enum-known-x
 enum-known-x c = search needs
 
--- src/line6.rt:26:9
-load-requires-2 : tie.Need-load-requires-2
-load-requires-2 c κs = search needs
-
--- src/line6.rt:28:20
-sign-extended-requires-2 : tie.Need-sign-extended-requires-2
-sign-extended-requires-2 c κs = search needs
-
--- src/line6.rt:17:1
 returns : tie.Need-returns
 unfolding displacementOf
 returns c =
     let c1 = c .before in let c2 = c1 .before in let c3 = c2 .before in let c4 = c3 .before in let c5 = c4 .before in
     rw (eq-eqb _ _ (c5 .if1 .taken), ← c4 .load .ensures, c2 .v .given .1, ← c .sign-extended .ensures)
 
--- src/line6.rt:17:1
 returns-2 : tie.Need-returns-2
 unfolding displacementOf
 returns-2 c =
     let c1 = c .before in let c2 = c1 .before in let c3 = c2 .before in let c4 = c3 .before in
     rw (eq-eqb _ _ (c4 .if1 .taken), ← c3 .load .ensures, c1 .x .given .1)
 
--- src/line6.rt:17:1
 returns-3 : tie.Need-returns-3
 unfolding displacementOf
 returns-3 c = rw (ne-eqb _ _ (c .before .before .if1 .left), eq-eqb _ _ (c .before .if2 .taken), ← c .load2 .ensures)
 
--- src/line6.rt:17:1
 returns-4 : tie.Need-returns-4
 unfolding displacementOf
 returns-4 c = rw (ne-eqb _ _ (c .before .before .if1 .left), ne-eqb _ _ (c .before .if2 .left), ← c .sign-extended2 .ensures)
@@ -60,12 +34,12 @@ pub displacement-spec : {M : Type 1} → statement M
 displacement-spec =
     tie.close
     (tie.spec
-    load-requires
+    (λ c κs. tt)
     enum-known-v
-    sign-extended-requires
+    (λ c κs. tt)
     enum-known-x
-    load-requires-2
-    sign-extended-requires-2
+    (λ c κs. tt)
+    (λ c κs. tt)
     returns
     returns-2
     returns-3

@@ -2,20 +2,15 @@ use borrow.Author.Tests.{lt-ltb, le-ltb, le-leb, lt-leb, eq-eqb, ne-eqb}
 use Rattle.instructions.specs.Line6.{displacementBytes as displacementBytesOf}
 use Rattle.lines5to9.proofs.line6.displacement_bytes.Statement.{statement}
 use Rattle.lines5to9.proofs.line6.displacement_bytes.Tie as tie
-use Rattle.lines5to9.proofs.line6.displacement_bytes.Reads as reads
-use Rattle.lines5to9.proofs.line6.displacement_bytes.Lts as lts
 
--- src/line6.rt:32:1
 returns : tie.Need-returns
 unfolding displacementBytesOf
 returns c = rw (eq-eqb _ _ (c .if1 .taken))
 
--- src/line6.rt:32:1
 returns-2 : tie.Need-returns-2
 unfolding displacementBytesOf
 returns-2 c = rw (ne-eqb _ _ (c .before .if1 .left), eq-eqb _ _ (c .if2 .taken))
 
--- src/line6.rt:32:1
 returns-3 : tie.Need-returns-3
 unfolding displacementBytesOf
 returns-3 c = rw (ne-eqb _ _ (c .before .if1 .left), ne-eqb _ _ (c .if2 .left))

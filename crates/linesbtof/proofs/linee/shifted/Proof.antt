@@ -4,39 +4,28 @@ use Rattle.linesbtof.proofs.Counts.{low64}
 use borrow.Author.Needs.{needs}
 use Rattle.linesbtof.proofs.linee.shifted.Statement.{statement}
 use Rattle.linesbtof.proofs.linee.shifted.Tie as tie
-use Rattle.linesbtof.proofs.linee.shifted.Reads as reads
-use Rattle.linesbtof.proofs.linee.shifted.Lts as lts
-use Rattle.arith.proofs.shift.shifted_left.Reads as shifted-left-reads
-use Rattle.arith.proofs.shift.shifted_right.Reads as shifted-right-reads
-use Rattle.arith.proofs.shift.signed_shifted_right.Reads as signed-shifted-right-reads
 
--- src/linee.rt:34:9
 shifted-left-requires : tie.Need-shifted-left-requires
 shifted-left-requires c κs = search needs
 
--- src/linee.rt:36:9
 signed-shifted-right-requires : tie.Need-signed-shifted-right-requires
 signed-shifted-right-requires c κs = search needs
 
--- src/linee.rt:38:9
 shifted-right-requires : tie.Need-shifted-right-requires
 shifted-right-requires c κs = search needs
 
--- src/linee.rt:29:1
 returns : tie.Need-returns
 unfolding shiftedOf
 returns c =
     let low = low64 (c .before .before .args .n) (c .before .before .pre) in
     rw (eq-eqb _ _ (c .before .if1 .taken)) (rw low at (c .shifted-left .ensures))
 
--- src/linee.rt:29:1
 returns-2 : tie.Need-returns-2
 unfolding shiftedOf
 returns-2 c =
     let low = low64 (c .before .before .before .args .n) (c .before .before .before .pre) in
     rw (ne-eqb _ _ (c .before .before .if1 .left), c .before .if2 .taken) (rw low at (c .signed-shifted-right .ensures))
 
--- src/linee.rt:29:1
 returns-3 : tie.Need-returns-3
 unfolding shiftedOf
 returns-3 c =

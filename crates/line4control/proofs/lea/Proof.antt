@@ -1,0 +1,34 @@
+use Rattle.line4control.specs.Aimed.{lea-goes}
+use borrow.Author.Needs.{needs}
+use Rattle.line4control.proofs.lea.Statement.{statement}
+use Rattle.line4control.proofs.lea.Tie as tie
+
+enum-known-a : tie.Need-enum-known-a
+enum-known-a c = search needs
+
+enum-known-e : tie.Need-enum-known-e
+enum-known-e c = search needs
+
+returns : tie.Need-returns
+returns c =
+    let c1 = c .before in let c2 = c1 .before in let c3 = c2 .before in let c4 = c3 .before in let c5 = c4 .before in let c6 = c5 .before in let c7 = c6 .before in
+    rw (lea-goes, ← c7 .kept-codes .ensures, ← c6 .no-write .ensures, ← c5 .aim .ensures, c3 .a .given .1, ← c1 .write-address .ensures, ← c .done .ensures)
+
+returns-2 : tie.Need-returns-2
+returns-2 c =
+    let c1 = c .before in let c2 = c1 .before in let c3 = c2 .before in let c4 = c3 .before in let c5 = c4 .before in
+    rw (lea-goes, ← c5 .kept-codes .ensures, ← c4 .no-write .ensures, ← c3 .aim .ensures, c1 .e .given .1)
+
+pub lea-spec : {M : Type 1} → statement M
+lea-spec =
+    tie.close
+    (tie.spec
+    (λ c κs. tt)
+    (λ c κs. tt)
+    (λ c κs. tt)
+    enum-known-a
+    (λ c κs. tt)
+    (λ c κs. tt)
+    enum-known-e
+    returns
+    returns-2)

@@ -1,0 +1,281 @@
+// Line 4: instructions of one operand, products and quotients.
+use address::changes::done;
+use address::changes::enter_after;
+use address::changes::put;
+use address::changes::refused;
+use address::operands::extension;
+use address::operands::fetch;
+use address::operands::locate;
+use address::operands::moved;
+use address::operands::operand;
+use address::operands::source;
+use arith::divide::overflow_codes;
+use arith::divide::quotient;
+use arith::divide::signed_quotient;
+use arith::multiply::long_product;
+use arith::multiply::signed_long_product;
+use manual::Change;
+use manual::Fault;
+use manual::Got;
+use manual::Quotient;
+use manual::Size;
+use manual::Write;
+use memory::load;
+use word::bits::with_bit;
+use word::flags::extended_codes;
+use word::flags::move_codes;
+use word::flags::subtracted;
+use word::flags::sum_codes;
+use word::registers::data;
+use word::registers::no_write;
+use word::registers::write_data;
+use word::word::cut;
+use word::word::merged;
+use word::word::plus;
+use word::word::sign_extended;
+use word::word::size_of;
+ghost use mathlib.Core.Path.{_≡_};
+ghost use mathlib.Core.Bool.{cond};
+ghost use lib.Dec.{eqb};
+ghost use Prim.Native.Nat.{_+_, _*_, _/_, _%_, _<_};
+ghost use Rattle.manual.specs.declared.Size.the-variants.{Long};
+ghost use Rattle.manual.specs.Word.{plus as plusOf};
+ghost use Rattle.manual.specs.Registers.{noWrite, writeData};
+ghost use Rattle.manual.specs.Flags.{moveCodes};
+ghost use Rattle.manual.specs.Multiply.{longProduct, signedLongProduct};
+ghost use Rattle.manual.specs.Divide.{overflowCodes};
+ghost use Rattle.manual.specs.Change.{done as doneOf};
+ghost use Rattle.instructions.specs.Line4.{extendByte, extendToWord, extendToLong, swap as swapOf, saturated as saturatedOf, saturate, negate, negateExtended, complement, clear, test, testAndSet, multiply, divided as dividedOf, quotientTo, divide};
+
+// A long into Dn, with the condition codes of a move.
+fn replaced(at: u32, sr: u16, op: u32, v: u32) -> Change
+    ensures { λ e. ⌜ e ≡ doneOf (plusOf at 2) (moveCodes Long v sr) noWrite (writeData op v) ⌝ }
+{
+    let next = plus(at, 2);
+    let codes = move_codes(Size::Long, v, sr);
+    done(next, codes, no_write(), write_data(op, v))
+}
+
+pub fn extb(g: &[u32; 16], at: u32, sr: u16, op: u32) -> Change
+    ensures { λ e. ⌜ e ≡ extendByte (now (g .entry)) at sr op ⌝ }
+{
+    replaced(at, sr, op, sign_extended(Size::Byte, data(g, op)))
+}
+
+pub fn ext_w(g: &[u32; 16], at: u32, sr: u16, op: u32) -> Change
+    ensures { λ e. ⌜ e ≡ extendToWord (now (g .entry)) at sr op ⌝ }
+{
+    let old = data(g, op);
+    let v = cut(Size::Word, sign_extended(Size::Byte, old));
+    let next = plus(at, 2);
+    let codes = move_codes(Size::Word, v, sr);
+    let none = no_write();
+    done(
+        next,
+        codes,
+        none,
+        write_data(op, merged(Size::Word, old, v)),
+    )
+}
+
+pub fn ext_l(g: &[u32; 16], at: u32, sr: u16, op: u32) -> Change
+    ensures { λ e. ⌜ e ≡ extendToLong (now (g .entry)) at sr op ⌝ }
+{
+    replaced(at, sr, op, sign_extended(Size::Word, data(g, op)))
+}
+
+pub fn swap(g: &[u32; 16], at: u32, sr: u16, op: u32) -> Change
+    ensures { λ e. ⌜ e ≡ swapOf (now (g .entry)) at sr op ⌝ }
+{
+    let old = data(g, op);
+    replaced(at, sr, op, old % 0x1_0000 * 0x1_0000 + old / 0x1_0000)
+}
+
+fn saturated(sr: u16, v: u32) -> u32
+    ensures { λ r. ⌜ r ≡ saturatedOf sr v ⌝ }
+{
+    if sr / 2 % 2 == 1 {
+        if v < 0x8000_0000 {
+            0x8000_0000
+        } else {
+            0x7FFF_FFFF
+        }
+    } else {
+        v
+    }
+}
+
+pub fn sats(g: &[u32; 16], at: u32, sr: u16, op: u32) -> Change
+    ensures { λ e. ⌜ e ≡ saturate (now (g .entry)) at sr op ⌝ }
+{
+    replaced(at, sr, op, saturated(sr, data(g, op)))
+}
+
+pub fn neg(g: &[u32; 16], at: u32, op: u32) -> Change
+    ensures { λ e. ⌜ e ≡ negate (now (g .entry)) at op ⌝ }
+{
+    let r = subtracted(Size::Long, data(g, op), 0, false);
+    let next = plus(at, 2);
+    let codes = sum_codes(r);
+    let none = no_write();
+    done(next, codes, none, write_data(op, r.value))
+}
+
+pub fn negx(g: &[u32; 16], at: u32, sr: u16, op: u32) -> Change
+    ensures { λ e. ⌜ e ≡ negateExtended (now (g .entry)) at sr op ⌝ }
+{
+    let r = subtracted(Size::Long, data(g, op), 0, sr / 16 % 2 == 1);
+    let next = plus(at, 2);
+    let codes = extended_codes(sr, r);
+    let none = no_write();
+    done(next, codes, none, write_data(op, r.value))
+}
+
+pub fn not(g: &[u32; 16], at: u32, sr: u16, op: u32) -> Change
+    ensures { λ e. ⌜ e ≡ complement (now (g .entry)) at sr op ⌝ }
+{
+    replaced(at, sr, op, 0xFFFF_FFFF - data(g, op))
+}
+
+pub fn clr(g: &[u32; 16], at: u32, sr: u16, mem: &[u8], op: u32) -> Change
+    ensures { λ e. ⌜ e ≡ clear (now (g .entry)) at sr (now (mem .entry)) op ⌝ }
+{
+    let z = size_of(op / 64);
+    let pc = plus(at, 2);
+    let target = operand(op / 8 % 8, op % 8);
+    let place = locate(g, mem, pc, target, z);
+    let next = plus(pc, extension(target, z));
+    let codes = move_codes(z, 0, sr);
+    let first = moved(g, target, z);
+    put(g, next, codes, first, no_write(), place, z, 0)
+}
+
+pub fn tst(g: &[u32; 16], at: u32, sr: u16, mem: &[u8], op: u32) -> Change
+    ensures { λ e. ⌜ e ≡ test (now (g .entry)) at sr (now (mem .entry)) op ⌝ }
+{
+    let z = size_of(op / 64);
+    let from = source(g, mem, plus(at, 2), op, z);
+    let got = from.got;
+    let v = match got {
+        Got::Value(v) => v,
+        Got::Fault(x) => return refused(x),
+    };
+    let next = from.next;
+    let first = from.moved;
+    let codes = move_codes(z, v, sr);
+    done(next, codes, first, no_write())
+}
+
+pub fn tas(g: &[u32; 16], at: u32, sr: u16, mem: &[u8], op: u32) -> Change
+    ensures { λ e. ⌜ e ≡ testAndSet (now (g .entry)) at sr (now (mem .entry)) op ⌝ }
+{
+    let pc = plus(at, 2);
+    let target = operand(op / 8 % 8, op % 8);
+    let place = locate(g, mem, pc, target, Size::Byte);
+    let v = match fetch(g, mem, place, Size::Byte) {
+        Got::Value(v) => v,
+        Got::Fault(x) => return refused(x),
+    };
+    let next = plus(pc, extension(target, Size::Byte));
+    let codes = move_codes(Size::Byte, v, sr);
+    let first = moved(g, target, Size::Byte);
+    let none = no_write();
+    put(
+        g,
+        next,
+        codes,
+        first,
+        none,
+        place,
+        Size::Byte,
+        with_bit(7, true, v),
+    )
+}
+
+fn product(w: u32, d: u32, v: u32) -> u32
+    ensures { λ r. ⌜ r ≡ cond (eqb (w / 0x800 % 2) 1) (signedLongProduct d v) (longProduct d v) ⌝ }
+{
+    if w / 0x800 % 2 == 1 {
+        signed_long_product(d, v)
+    } else {
+        long_product(d, v)
+    }
+}
+
+pub fn mul_l(g: &[u32; 16], at: u32, sr: u16, mem: &[u8], op: u32) -> Change
+    ensures { λ e. ⌜ e ≡ multiply (now (g .entry)) at sr (now (mem .entry)) op ⌝ }
+{
+    let pc = plus(at, 2);
+    let w = match load(mem, pc, Size::Word) {
+        Got::Value(w) => w,
+        Got::Fault(x) => return refused(x),
+    };
+    let from = source(g, mem, plus(pc, 2), op, Size::Long);
+    let got = from.got;
+    let v = match got {
+        Got::Value(v) => v,
+        Got::Fault(x) => return refused(x),
+    };
+    let next = from.next;
+    let first = from.moved;
+    let r = product(w, data(g, w / 0x1000), v);
+    let codes = move_codes(Size::Long, r, sr);
+    done(next, codes, first, write_data(w / 0x1000, r))
+}
+
+fn divided(w: u32, d: u32, v: u32) -> Quotient
+    requires { ⌜ 0 < v ⌝ }
+    ensures { λ q. ⌜ q ≡ dividedOf w d v ⌝ }
+{
+    if w / 0x800 % 2 == 1 {
+        signed_quotient(d, v)
+    } else {
+        quotient(d, v)
+    }
+}
+
+// The quotient, or the remainder where the second word names another register for it.
+fn quotient_to(w: u32, q: Quotient) -> Write
+    ensures { λ r. ⌜ r ≡ quotientTo w q ⌝ }
+{
+    if w / 0x1000 % 8 == w % 8 {
+        write_data(w, q.quotient)
+    } else {
+        write_data(w, q.remainder)
+    }
+}
+
+fn quotient_done(next: u32, sr: u16, first: Write, w: u32, q: Quotient) -> Change
+    ensures { λ e. ⌜ e ≡ cond (q .fits) (doneOf next (moveCodes Long (q .quotient) sr) first (quotientTo w q)) (doneOf next (overflowCodes sr) first noWrite) ⌝ }
+{
+    if q.fits {
+        let codes = move_codes(Size::Long, q.quotient, sr);
+        done(next, codes, first, quotient_to(w, q))
+    } else {
+        let codes = overflow_codes(sr);
+        done(next, codes, first, no_write())
+    }
+}
+
+pub fn div_l(g: &[u32; 16], at: u32, sr: u16, mem: &[u8], op: u32) -> Change
+    ensures { λ e. ⌜ e ≡ divide (now (g .entry)) at sr (now (mem .entry)) op ⌝ }
+{
+    let pc = plus(at, 2);
+    let w = match load(mem, pc, Size::Word) {
+        Got::Value(w) => w,
+        Got::Fault(x) => return refused(x),
+    };
+    let from = source(g, mem, plus(pc, 2), op, Size::Long);
+    let got = from.got;
+    let v = match got {
+        Got::Value(v) => v,
+        Got::Fault(x) => return refused(x),
+    };
+    let next = from.next;
+    let first = from.moved;
+    if v == 0 {
+        return enter_after(first, sr, 5, next);
+    }
+    let q = divided(w, data(g, w / 0x1000), v);
+    quotient_done(next, sr, first, w, q)
+}

@@ -1,0 +1,156 @@
+// Line 4: the status register, and what the supervisor alone may do.
+use address::changes::acting;
+use address::changes::done;
+use address::changes::enter_after;
+use address::changes::illegal;
+use address::changes::privilege;
+use address::changes::refused;
+use address::operands::source;
+use manual::Action;
+use manual::Change;
+use manual::Fault;
+use manual::Got;
+use manual::Size;
+use memory::load;
+use word::flags::kept_codes;
+use word::registers::address;
+use word::registers::data;
+use word::registers::no_write;
+use word::registers::write_address;
+use word::registers::write_data;
+use word::word::merged;
+use word::word::plus;
+ghost use mathlib.Core.Path.{_≡_};
+ghost use mathlib.Core.Bool.{cond};
+ghost use Prim.Native.Nat.{_+_, _*_, _/_, _%_, _<_};
+ghost use Rattle.manual.specs.Exceptions.{supervisor};
+ghost use Rattle.manual.specs.Change.{privilege as privilegeOf};
+ghost use Rattle.instructions.specs.Line4.{rte as rteOf, stop as stopOf, stldsr as stldsrOf, halt as haltOf, toUsp, fromUsp, fromSr, toSr, fromCcr, toCcr};
+
+// What the supervisor alone may do. For anyone else it is a privilege violation.
+fn privileged(at: u32, sr: u16, does: Change) -> Change
+    ensures { λ e. ⌜ e ≡ cond (supervisor sr) does (privilegeOf at sr) ⌝ }
+{
+    if sr / 0x2000 % 2 == 1 {
+        does
+    } else {
+        privilege(at, sr)
+    }
+}
+
+pub fn rte(at: u32, sr: u16) -> Change
+    ensures { λ e. ⌜ e ≡ rteOf at sr ⌝ }
+{
+    let next = plus(at, 2);
+    privileged(at, sr, acting(sr, next, no_write(), Action::Return))
+}
+
+pub fn stop(at: u32, sr: u16, mem: &[u8]) -> Change
+    ensures { λ e. ⌜ e ≡ stopOf at sr (now (mem .entry)) ⌝ }
+{
+    let pc = plus(at, 2);
+    let v = match load(mem, pc, Size::Word) {
+        Got::Value(v) => v,
+        Got::Fault(x) => return refused(x),
+    };
+    let next = plus(pc, 2);
+    privileged(at, sr, acting(sr, next, no_write(), Action::Stop(v)))
+}
+
+pub fn stldsr(at: u32, sr: u16, mem: &[u8]) -> Change
+    ensures { λ e. ⌜ e ≡ stldsrOf at sr (now (mem .entry)) ⌝ }
+{
+    let pc = plus(at, 2);
+    let w = match load(mem, pc, Size::Word) {
+        Got::Value(w) => w,
+        Got::Fault(x) => return refused(x),
+    };
+    if w != 0x46FC {
+        return illegal(at, sr);
+    }
+    let v = match load(mem, plus(pc, 2), Size::Word) {
+        Got::Value(v) => v,
+        Got::Fault(x) => return refused(x),
+    };
+    let next = plus(pc, 4);
+    privileged(at, sr, acting(sr, next, no_write(), Action::PushStatus(v)))
+}
+
+pub fn halt(at: u32, sr: u16) -> Change
+    ensures { λ e. ⌜ e ≡ haltOf at sr ⌝ }
+{
+    acting(sr, plus(at, 2), no_write(), Action::Halt)
+}
+
+pub fn to_usp(g: &[u32; 16], at: u32, sr: u16, op: u32) -> Change
+    ensures { λ e. ⌜ e ≡ toUsp (now (g .entry)) at sr op ⌝ }
+{
+    let next = plus(at, 2);
+    let a = address(g, op);
+    privileged(at, sr, acting(sr, next, no_write(), Action::Other(a)))
+}
+
+pub fn from_usp(at: u32, sr: u16, other: u32, op: u32) -> Change
+    ensures { λ e. ⌜ e ≡ fromUsp at sr other op ⌝ }
+{
+    let next = plus(at, 2);
+    let codes = kept_codes(sr);
+    let none = no_write();
+    privileged(at, sr, done(next, codes, none, write_address(op, other)))
+}
+
+pub fn from_sr(g: &[u32; 16], at: u32, sr: u16, op: u32) -> Change
+    ensures { λ e. ⌜ e ≡ fromSr (now (g .entry)) at sr op ⌝ }
+{
+    if op / 8 % 8 == 0 {
+        let next = plus(at, 2);
+        let codes = kept_codes(sr);
+        let none = no_write();
+        let low = merged(Size::Word, data(g, op), sr as u32);
+        privileged(at, sr, done(next, codes, none, write_data(op, low)))
+    } else {
+        privileged(at, sr, illegal(at, sr))
+    }
+}
+
+pub fn to_sr(g: &[u32; 16], at: u32, sr: u16, mem: &[u8], op: u32) -> Change
+    ensures { λ e. ⌜ e ≡ toSr (now (g .entry)) at sr (now (mem .entry)) op ⌝ }
+{
+    let from = source(g, mem, plus(at, 2), op, Size::Word);
+    let got = from.got;
+    let v = match got {
+        Got::Value(v) => v,
+        Got::Fault(x) => return refused(x),
+    };
+    let next = from.next;
+    let first = from.moved;
+    if sr / 0x2000 % 2 == 1 {
+        acting(sr, next, first, Action::Status(v))
+    } else {
+        enter_after(first, sr, 8, at)
+    }
+}
+
+pub fn from_ccr(g: &[u32; 16], at: u32, sr: u16, op: u32) -> Change
+    ensures { λ e. ⌜ e ≡ fromCcr (now (g .entry)) at sr op ⌝ }
+{
+    let next = plus(at, 2);
+    let codes = kept_codes(sr);
+    let none = no_write();
+    let low = merged(Size::Word, data(g, op), codes);
+    done(next, codes, none, write_data(op, low))
+}
+
+pub fn to_ccr(g: &[u32; 16], at: u32, mem: &[u8], op: u32) -> Change
+    ensures { λ e. ⌜ e ≡ toCcr (now (g .entry)) at (now (mem .entry)) op ⌝ }
+{
+    let from = source(g, mem, plus(at, 2), op, Size::Word);
+    let got = from.got;
+    let v = match got {
+        Got::Value(v) => v,
+        Got::Fault(x) => return refused(x),
+    };
+    let next = from.next;
+    let first = from.moved;
+    done(next, v % 32, first, no_write())
+}

@@ -1,0 +1,126 @@
+// Sums and differences: ADD, ADDA, ADDX, SUB, SUBA, SUBX, and what ADDQ and SUBQ do to a place.
+use address::changes::done;
+use address::changes::put;
+use address::changes::refused;
+use address::operands::extension;
+use address::operands::fetch;
+use address::operands::locate;
+use address::operands::moved;
+use address::operands::operand;
+use address::operands::source;
+use manual::Change;
+use manual::Fault;
+use manual::Got;
+use manual::Size;
+use word::flags::extended_codes;
+use word::flags::kept_codes;
+use word::flags::sum_codes;
+use word::flags::sum_or_difference;
+use word::registers::address_after;
+use word::registers::data;
+use word::registers::no_write;
+use word::registers::write_address;
+use word::registers::write_data;
+use word::word::merged;
+use word::word::minus;
+use word::word::plus;
+use word::word::sign_extended;
+use word::word::size_of;
+ghost use mathlib.Core.Path.{_≡_};
+ghost use Prim.Native.Nat.{_+_, _*_, _/_, _%_};
+ghost use Rattle.instructions.specs.Line9D.{toData, toPlace, toMemory, moreOrLess, toAddress, withX};
+ghost use Rattle.manual.specs.Differences.{anySize};
+
+pub fn to_data(add: bool, g: &[u32; 16], at: u32, mem: &[u8], op: u32) -> Change
+    ensures { λ e. ⌜ e ≡ toData add (now (g .entry)) at (now (mem .entry)) op ⌝ }
+{
+    let z = size_of(op / 64);
+    let from = source(g, mem, plus(at, 2), op, z);
+    let got = from.got;
+    let v = match got {
+        Got::Value(v) => v,
+        Got::Fault(x) => return refused(x),
+    };
+    let next = from.next;
+    let first = from.moved;
+    let old = data(g, op / 512);
+    let r = sum_or_difference(add, z, v, old, false);
+    let codes = sum_codes(r);
+    done(
+        next,
+        codes,
+        first,
+        write_data(op / 512, merged(z, old, r.value)),
+    )
+}
+
+pub fn to_place(add: bool, z: Size, g: &[u32; 16], at: u32, mem: &[u8], op: u32, n: u32) -> Change
+    ensures { λ e. ⌜ e ≡ toPlace add z (now (g .entry)) at (now (mem .entry)) op n ⌝ }
+{
+    let target = operand(op / 8 % 8, op % 8);
+    let pc = plus(at, 2);
+    let place = locate(g, mem, pc, target, z);
+    let v = match fetch(g, mem, place, z) {
+        Got::Value(v) => v,
+        Got::Fault(x) => return refused(x),
+    };
+    let r = sum_or_difference(add, z, n, v, false);
+    let next = plus(pc, extension(target, z));
+    let codes = sum_codes(r);
+    let first = moved(g, target, z);
+    put(g, next, codes, first, no_write(), place, z, r.value)
+}
+
+pub fn to_memory(add: bool, g: &[u32; 16], at: u32, mem: &[u8], op: u32) -> Change
+    ensures { λ e. ⌜ e ≡ toMemory add (now (g .entry)) at (now (mem .entry)) op ⌝ }
+{
+    to_place(add, size_of(op / 64), g, at, mem, op, data(g, op / 512))
+}
+
+pub fn more_or_less(add: bool, old: u32, v: u32) -> u32
+    ensures { λ r. ⌜ r ≡ moreOrLess add old v ⌝ }
+{
+    if add { plus(old, v) } else { minus(old, v) }
+}
+
+pub fn to_address(
+    add: bool,
+    z: Size,
+    g: &[u32; 16],
+    at: u32,
+    sr: u16,
+    mem: &[u8],
+    op: u32,
+) -> Change
+    ensures { λ e. ⌜ e ≡ toAddress add z (now (g .entry)) at sr (now (mem .entry)) op ⌝ }
+{
+    let from = source(g, mem, plus(at, 2), op, z);
+    let got = from.got;
+    let v = match got {
+        Got::Value(v) => v,
+        Got::Fault(x) => return refused(x),
+    };
+    let next = from.next;
+    let first = from.moved;
+    let old = address_after(g, first, op / 512);
+    let r = more_or_less(add, old, sign_extended(z, v));
+    let codes = kept_codes(sr);
+    done(next, codes, first, write_address(op / 512, r))
+}
+
+pub fn with_x(add: bool, g: &[u32; 16], at: u32, sr: u16, op: u32) -> Change
+    ensures { λ e. ⌜ e ≡ withX add (now (g .entry)) at sr op ⌝ }
+{
+    let z = size_of(op / 64);
+    let old = data(g, op / 512);
+    let r = sum_or_difference(add, z, data(g, op), old, sr / 16 % 2 == 1);
+    let next = plus(at, 2);
+    let codes = extended_codes(sr, r);
+    let none = no_write();
+    done(
+        next,
+        codes,
+        none,
+        write_data(op / 512, merged(z, old, r.value)),
+    )
+}
