@@ -2,6 +2,7 @@
 use mathlib.Core.Path.{_≡_}
 use mathlib.Core.Bool.{Bool, cond, not}
 use Prim.Native.Nat.{ℕ, _+_, _-_, _^_, _≤_, _<_}
+use lib.Dec.{ltb}
 use lib.IntN.{ℤ, _+ℤ_, _-ℤ_}
 use Rattle.manual.specs.declared.Mode.{Mode}
 use Rattle.manual.specs.declared.Emac.{Emac}
@@ -10,6 +11,10 @@ use Rattle.manual.specs.Emac.{rounded, fraction, scaled, valueOf, inRange, stor
 use Rattle.word.specs.RaisedLaws.{Up}
 use Rattle.emac.specs.declared.product.Raised.{Raised}
 use Rattle.emac.specs.declared.mac.AfterSum.{AfterSum}
+
+-- a signed long without its sign
+unfoldable pub magnitude : ℕ → ℕ
+magnitude x = cond (ltb x (2 ^ 31)) x (2 ^ 32 - x)
 
 -- p is a product raised by 2^62, and r its fraction raised by 2^39
 pub record IsFraction (rt : Bool) (p r : ℕ) : Type 0 where

@@ -9,7 +9,7 @@ ghost use Rattle.manual.specs.declared.Size.the-variants.{Long};
 ghost use Rattle.manual.specs.Word.{signed, inHalf};
 ghost use Rattle.manual.specs.Emac.{roundsUp, fraction as fractionOf, signedProduct, unsignedProduct, productOf, productOver, scaleOf};
 ghost use Rattle.word.specs.RaisedLaws.{Up};
-ghost use Rattle.emac.specs.Parts.{IsFraction, IsNumber, IsScaled};
+ghost use Rattle.emac.specs.Parts.{magnitude as magnitudeOf, IsFraction, IsNumber, IsScaled};
 
 // A number raised by 2^52, and whether it overflowed.
 pub(crate) struct Raised {
@@ -32,23 +32,34 @@ fn mul31(a: u64, b: u64) -> u64
     a * b
 }
 
-// The signed product, raised by 2^62.
+// A signed long without its sign.
+fn magnitude(x: u32) -> u64
+    ensures { λ r. ⌜ (r ≡ magnitudeOf x) × (r ≤ 2 ^ 31) ⌝ }
+{
+    let a = x as u64;
+    if a < 0x8000_0000 {
+        a
+    } else {
+        0x1_0000_0000 - a
+    }
+}
+
+// The signed product, raised by 2^62. A sign is as likely as the other, so no branch should hang on it: the magnitudes are multiplied first.
 fn product(x: u32, y: u32) -> u64
     ensures { λ r. ⌜ Up (2 ^ 62) (signed Long x *ℤ signed Long y) r × (r ≤ 2 ^ 63) ⌝ }
 {
-    let a = x as u64;
-    let b = y as u64;
-    if a < 0x8000_0000 {
-        if b < 0x8000_0000 {
-            0x4000_0000_0000_0000 + mul31(a, b)
+    let m = mul31(magnitude(x), magnitude(y));
+    if x < 0x8000_0000 {
+        if y < 0x8000_0000 {
+            0x4000_0000_0000_0000 + m
         } else {
-            0x4000_0000_0000_0000 - mul31(a, 0x1_0000_0000 - b)
+            0x4000_0000_0000_0000 - m
         }
     } else {
-        if b < 0x8000_0000 {
-            0x4000_0000_0000_0000 - mul31(0x1_0000_0000 - a, b)
+        if y < 0x8000_0000 {
+            0x4000_0000_0000_0000 - m
         } else {
-            0x4000_0000_0000_0000 + mul31(0x1_0000_0000 - a, 0x1_0000_0000 - b)
+            0x4000_0000_0000_0000 + m
         }
     }
 }
