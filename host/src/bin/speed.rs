@@ -3,6 +3,8 @@
 //! of TIMES (seven), and the ratio: the archive's speed over the original's. After each pair the two
 //! states and memories must be equal.
 
+#![no_main]
+
 #[cfg(not(original))]
 compile_error!("the original's cpu.rs was not found: give its path in ORACLE_CPU_RS");
 
@@ -98,7 +100,8 @@ fn original(c: &mut Cpu, budget: u32) -> u32 {
     done
 }
 
-fn main() {
+#[no_mangle]
+pub extern "C" fn main() -> i32 {
     let number = |i, default| std::env::args().nth(i).map_or(default, |a| a.parse().expect("use: speed [STEPS [TIMES [PROGRAM]]]"));
     let (steps, times): (u32, u32) = (number(1, 2_000_000), number(2, 7));
     let folder = PathBuf::from(env!("CARGO_MANIFEST_DIR")).join("programs");
@@ -133,4 +136,5 @@ fn main() {
         }
         println!("{name:8} {:18.2} {:18.2} {:6.2}", best[0], best[1], best[0] / best[1]);
     }
+    0
 }
