@@ -41,7 +41,8 @@ find_original() {
     lacks "the original's cpu.rs is not there: give its path in ORACLE_CPU_RS"
 }
 
-# build PROGRAM FOLDER: compiles the wrapper and a program of src/bin over it to FOLDER/PROGRAM.
+# build PROGRAM FOLDER: compiles the wrapper and a program of src/bin over it to FOLDER/PROGRAM, over the archive
+# and the original where they were found.
 build() {
     mkdir -p "$2"
     "${rust[@]}" --crate-type rlib --crate-name host src/lib.rs -o "$2/libhost.rlib"
@@ -50,5 +51,5 @@ build() {
         set -- "$@" --cfg original
     fi
     OUT_DIR=$(cd "$2" && pwd) "${rust[@]}" --crate-name "$1" "src/bin/$1.rs" --extern host="$2/libhost.rlib" \
-        -L native="$archive" -l static=harness "${@:3}" -o "$2/$1"
+        ${archive:+-L native="$archive" -l static=harness} "${@:3}" -o "$2/$1"
 }
