@@ -5,10 +5,12 @@ mod record;
 use libc::STDIN_FILENO;
 use libc::STDOUT_FILENO;
 use memory::long_at;
+use patch::wide;
 use record::record;
 ghost use mathlib.Core.Path.{_≡_};
 ghost use Prim.Native.Nat.{_+_, _≤_, _<_};
 ghost use lib.ListN.{length};
+ghost use Rattle.replay.specs.Sums.{summed};
 
 // How many records there are, how many agree, the number of the first that does not (0 where all do), and the
 // place after the last.
@@ -93,6 +95,19 @@ fn replay(file: &[u8]) -> Tally
     t
 }
 
+// A sum of all bytes: it changes where one byte does.
+fn sum_of(file: &[u8]) -> u64
+    ensures { λ r. ⌜ r ≡ summed (length (now (file .entry))) (now (file .entry)) ⌝ }
+{
+    let mut sum: u64 = 0;
+    let mut i: usize = 0;
+    while i < file.len() {
+        sum = (sum * 257 + wide(file[i]) as u64) % 0x1_0000_0000;
+        i += 1;
+    }
+    sum
+}
+
 fn line(name: &[u8], n: u64) {
     io::write_all(STDOUT_FILENO, name);
     io::print_decimal(STDOUT_FILENO, n);
@@ -102,10 +117,12 @@ fn line(name: &[u8], n: u64) {
 fn main() {
     let mut space = [0u8; 393_216];
     let n = io::read_full(STDIN_FILENO, &mut space);
-    let t = replay(&space[..n]);
+    let file = &space[..n];
+    let t = replay(file);
     line(b"records ", t.records);
     line(b"agree ", t.agree);
     line(b"first that differs ", t.first);
     line(b"bytes ", n as u64);
     line(b"bytes replayed ", t.at as u64);
+    line(b"sum ", sum_of(file));
 }

@@ -1,15 +1,10 @@
+-- `replay::replay` meets its contract: the place stays inside the file, and as many records are counted as were passed. Assumes nothing.
 use Prim.Native.Nat.{_≤_, _-_}
 use mathlib.Core.Path.{_≡_}
 use lib.ListN.{length}
 use borrow.Author.Needs.{needs}
 use Rattle.replay.proofs.replay.Statement.{statement}
 use Rattle.replay.proofs.replay.Tie as tie
-use Rattle.replay.proofs.replay.Reads as reads
-use Rattle.replay.proofs.replay.Lts as lts
-use Rattle.replay.proofs.counted.Reads as counted-reads
-use Rattle.replay.proofs.first_at.Reads as first-at-reads
-use Rattle.replay.proofs.record.record.Reads as record-reads
-use Rattle.replay.proofs.records_of.Reads as records-of-reads
 
 abbrev Inv-loop : tie.InvT-loop
 Inv-loop file head₀ block₀ mem₀ want-block₀ want-mem₀ count t₀ i₀ head block mem want-block want-mem t i =
@@ -19,39 +14,30 @@ abbrev μ-loop : tie.MeasureT-loop
 μ-loop file head₀ block₀ mem₀ want-block₀ want-mem₀ count t₀ i₀ head block mem want-block want-mem t i =
     count - i
 
--- src/main.rt:71:9
 records-of-requires : tie.Need-records-of-requires Inv-loop μ-loop
 records-of-requires c κs = search needs
 
--- src/main.rt:76:13
 first-at-requires : tie.Need-first-at-requires Inv-loop μ-loop
 first-at-requires c κs = search needs
 
--- src/main.rt:79:5
 loop-holds : tie.Need-loop-holds Inv-loop μ-loop
 loop-holds c = search needs
 
--- src/main.rt:81:13
 record-requires : tie.Need-record-requires Inv-loop μ-loop
 record-requires c κs = search needs
 
--- src/main.rt:90:9
 counted-requires : tie.Need-counted-requires Inv-loop μ-loop
 counted-requires c κs = search needs
 
--- src/main.rt:91:9
 add-i : tie.Need-add-i Inv-loop μ-loop
 add-i c = search needs
 
--- src/main.rt:79:5
 loop-less : tie.Need-loop-less Inv-loop μ-loop
 loop-less c = search needs
 
--- src/main.rt:79:5
 loop-again : tie.Need-loop-again Inv-loop μ-loop
 loop-again c = search needs
 
--- src/main.rt:63:1
 returns : tie.Need-returns Inv-loop μ-loop
 returns c = search needs
 
