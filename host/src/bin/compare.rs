@@ -18,6 +18,8 @@ mod fast;
 mod jit;
 #[path = "../oracle/oracle.rs"]
 mod oracle;
+#[path = "../random.rs"]
+mod random;
 #[path = "../cases.rs"]
 mod cases;
 include!(concat!(env!("OUT_DIR"), "/original.rs"));

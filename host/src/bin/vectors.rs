@@ -21,6 +21,8 @@ mod fast;
 mod jit;
 #[path = "../oracle/oracle.rs"]
 mod oracle;
+#[path = "../random.rs"]
+mod random;
 include!(concat!(env!("OUT_DIR"), "/original.rs"));
 
 use cases::{accumulator, data, edge, put, tame, Call, Case, Random};
