@@ -18,6 +18,8 @@ mod fast;
 mod jit;
 #[path = "../oracle/oracle.rs"]
 mod oracle;
+#[path = "../programs.rs"]
+mod programs;
 #[path = "../random.rs"]
 mod random;
 #[path = "../cases.rs"]
@@ -272,7 +274,9 @@ fn lengths(c: &mut Compare, r: &mut Random) {
             mem.truncate(len);
             c.check("lengths", Case::of(Call::Step, &s, mem.clone()));
             c.check("lengths", Case::of(Call::Exception(r.below(64) as u8, r.long()), &s, mem.clone()));
-            c.check("lengths", Case::of(Call::Rte, &s, mem));
+            c.check("lengths", Case::of(Call::Rte, &s, mem.clone()));
+            let call = any_call(r);
+            c.check("lengths", Case::of(call, &s, mem));
         }
     }
 }
@@ -395,6 +399,37 @@ fn runs(c: &mut Compare, r: &mut Random) {
             mem.truncate(r.below(LENGTH) as usize);
         }
         c.check("runs", Case::of(Call::Run(i % 21), &s, mem));
+    }
+}
+
+/// Runs of thousands of steps, by programs that loop, and of as many as a budget can name, by ones that end.
+fn long_runs(c: &mut Compare, r: &mut Random) {
+    for (_, image) in programs::PROGRAMS {
+        let (s, mut mem) = programs::load(image);
+        mem.truncate(0x5000);
+        c.check("long runs", Case::of(Call::Run(1000 + r.below(3000)), &s, mem));
+    }
+    for i in 0..64u32 {
+        let mut s = state(r, true);
+        s.a = std::array::from_fn(|_| 0x600 + r.below(0x400));
+        s.d = std::array::from_fn(|_| data(r));
+        s.d[7] = 1 + r.below(60);
+        s.other = 0x700;
+        s.vbr = 0x40;
+        let mut mem = memory(r, &s, LENGTH);
+        // Words on registers, then SUBQ.L #1,D7, BNE to the first, and a word that ends the run.
+        let n = 1 + r.below(12);
+        for k in 0..n {
+            let op = r.pick(&[0xD080u16, 0x9080, 0xC080, 0xB180, 0xE188, 0xE0A0, 0x5080, 0x7100, 0x7180, 0xC0C0, 0x4480, 0x4840, 0x2000]);
+            let op = if op >> 8 & 0x0E == 0 { op | (r.below(7) as u16) << 9 } else { op };
+            put(&mut mem, s.pc + 2 * k, &(op | r.below(7) as u16).to_be_bytes());
+        }
+        let end = s.pc + 2 * n;
+        put(&mut mem, end, &0x5387u16.to_be_bytes());
+        put(&mut mem, end + 2, &(0x6600 | (0u32.wrapping_sub(2 * n + 4) & 0xFF) as u16).to_be_bytes());
+        put(&mut mem, end + 4, &r.pick(&[0x4AC8u16, 0x8000, 0x4E7A]).to_be_bytes());
+        let budget = if i % 2 == 0 { u32::MAX } else { r.below(800) };
+        c.check("long runs", Case::of(Call::Run(budget), &s, mem));
     }
 }
 
@@ -651,6 +686,7 @@ pub extern "C" fn main() -> i32 {
         emac(&mut c, &mut r);
         edges(&mut c, &mut r);
         runs(&mut c, &mut r);
+        long_runs(&mut c, &mut r);
         calls(&mut c, &mut r);
         refused(&mut c, &mut r);
         large(&mut c, &mut r, round);

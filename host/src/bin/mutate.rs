@@ -5,6 +5,7 @@
 #![no_main]
 
 #[path = "../random.rs"]
+#[allow(dead_code)]
 mod random;
 
 use random::Random;
