@@ -402,7 +402,7 @@ fn runs(c: &mut Compare, r: &mut Random) {
     }
 }
 
-/// Runs of thousands of steps, by programs that loop, and of as many as a budget can name, by ones that end.
+/// Runs of thousands of steps, by programs that loop and by ones that end, and the largest budget.
 fn long_runs(c: &mut Compare, r: &mut Random) {
     for (_, image) in programs::PROGRAMS {
         let (s, mut mem) = programs::load(image);
@@ -428,7 +428,9 @@ fn long_runs(c: &mut Compare, r: &mut Random) {
         put(&mut mem, end, &0x5387u16.to_be_bytes());
         put(&mut mem, end + 2, &(0x6600 | (0u32.wrapping_sub(2 * n + 4) & 0xFF) as u16).to_be_bytes());
         put(&mut mem, end + 4, &r.pick(&[0x4AC8u16, 0x8000, 0x4E7A]).to_be_bytes());
-        let budget = if i % 2 == 0 { u32::MAX } else { r.below(800) };
+        // A core that has stopped takes the largest budget: any other could run on where the two differ.
+        s.stopped = i % 16 == 0;
+        let budget = if s.stopped { u32::MAX } else if i % 2 == 0 { 20_000 } else { r.below(800) };
         c.check("long runs", Case::of(Call::Run(budget), &s, mem));
     }
 }
