@@ -9,6 +9,8 @@ use patch::wide;
 use record::record;
 ghost use mathlib.Core.Path.{_≡_};
 ghost use Prim.Native.Nat.{_+_, _≤_, _<_};
+ghost use mathlib.Core.Bool.{cond};
+ghost use lib.Dec.{eqb};
 ghost use lib.ListN.{length};
 ghost use Rattle.replay.specs.Sums.{summed};
 
@@ -42,7 +44,7 @@ fn first_at(file: &[u8]) -> usize
 
 fn counted(t: Tally, agrees: bool, at: usize) -> Tally
     requires { ⌜ (t .agree ≤ t .records) × (t .records < 4294967296) ⌝ }
-    ensures { λ r. ⌜ (r .agree ≤ r .records) × (r .records ≡ t .records + 1) × (r .at ≡ at) ⌝ }
+    ensures { λ r. ⌜ (r .agree ≤ r .records) × (r .records ≡ t .records + 1) × (r .agree ≡ cond agrees (t .agree + 1) (t .agree)) × (r .first ≡ cond agrees (t .first) (cond (eqb (t .first) 0) (t .records + 1) (t .first))) × (r .at ≡ at) ⌝ }
 {
     let records = t.records + 1;
     if agrees {

@@ -11,7 +11,7 @@ use harness::step;
 use memory::long_at;
 use memory::number::read_number;
 ghost use mathlib.Core.Path.{_≡_};
-ghost use Prim.Native.Nat.{_+_, _≤_, _<_};
+ghost use Prim.Native.Nat.{_≤_, min};
 ghost use lib.ListN.{length};
 ghost use Rattle.harness.specs.Calls.{called};
 ghost use Rattle.replay.specs.Asked.{asked};
@@ -23,7 +23,7 @@ pub struct Replayed {
 }
 
 fn least(a: usize, b: usize) -> usize
-    ensures { λ r. ⌜ r ≤ b ⌝ }
+    ensures { λ r. ⌜ r ≡ min a b ⌝ }
 {
     if a < b {
         return a;
