@@ -3,6 +3,8 @@
 //! of TIMES (seven), and the ratio: the archive's speed over the original's. After each pair the two
 //! states and memories must be equal.
 
+#![no_main]
+
 #[cfg(not(original))]
 compile_error!("the original's cpu.rs was not found: give its path in ORACLE_CPU_RS");
 
@@ -15,14 +17,14 @@ mod fast;
 #[path = "../oracle/jit.rs"]
 #[allow(dead_code)]
 mod jit;
+#[path = "../programs.rs"]
+mod programs;
 include!(concat!(env!("OUT_DIR"), "/original.rs"));
 
 use bus::Bus;
 use cpu::Cpu;
 use host::{Reply, State};
-use std::path::PathBuf;
-
-const MEMORY: usize = 49_152;
+use programs::{load, PROGRAMS};
 
 extern "C" {
     fn clock_gettime(clock: i32, time: *mut [i64; 2]) -> i32;
@@ -35,19 +37,6 @@ fn now() -> f64 {
     let answer = unsafe { clock_gettime(3, &mut t) };
     assert_eq!(answer, 0, "the thread's clock");
     t[0] as f64 * 1e9 + t[1] as f64
-}
-
-/// The start of an image file: a state and a memory.
-fn load(bytes: &[u8]) -> (State, Vec<u8>) {
-    let long = |at: usize| u32::from_be_bytes(bytes[at..at + 4].try_into().unwrap());
-    assert!(bytes[0] == 1 && long(1) as usize == bytes.len() - 5, "an image file");
-    let mut s = State::fresh();
-    s.pc = long(5);
-    s.a[7] = long(9);
-    s.sr = u16::from_be_bytes([bytes[13], bytes[14]]);
-    let mut mem = vec![0; MEMORY];
-    mem[..bytes.len() - 19].copy_from_slice(&bytes[19..]);
-    (s, mem)
 }
 
 fn set(c: &mut Cpu, s: &State, mem: &[u8]) {
@@ -98,21 +87,19 @@ fn original(c: &mut Cpu, budget: u32) -> u32 {
     done
 }
 
-fn main() {
+#[no_mangle]
+pub extern "C" fn main() -> i32 {
     let number = |i, default| std::env::args().nth(i).map_or(default, |a| a.parse().expect("use: speed [STEPS [TIMES [PROGRAM]]]"));
     let (steps, times): (u32, u32) = (number(1, 2_000_000), number(2, 7));
-    let folder = PathBuf::from(env!("CARGO_MANIFEST_DIR")).join("programs");
     let mut cpu = Cpu::new(Bus::new());
     println!("{steps} steps, best of {times}");
     println!("{:8} {:>18} {:>18} {:>6}", "program", "original ns/step", "archive ns/step", "ratio");
     let only = std::env::args().nth(3);
-    for name in ["search", "copy", "dot"] {
+    for (name, bytes) in PROGRAMS {
         if only.as_ref().is_some_and(|o| o != name) {
             continue;
         }
-        let path = folder.join(format!("{name}.image"));
-        let bytes = std::fs::read(&path).unwrap_or_else(|e| panic!("{}: {e}", path.display()));
-        let (start, memory) = load(&bytes);
+        let (start, memory) = load(bytes);
         let mut best = [f64::INFINITY; 2];
         for _ in 0..times {
             set(&mut cpu, &start, &memory);
@@ -133,4 +120,5 @@ fn main() {
         }
         println!("{name:8} {:18.2} {:18.2} {:6.2}", best[0], best[1], best[0] / best[1]);
     }
+    0
 }

@@ -1,0 +1,22 @@
+-- The call that a record's head names: its kind, then the vector, the level, and from byte 6 a long, which is the budget of a run and else
+-- the program counter of the frame.
+use Prim.Native.Nat.{ℕ}
+use mathlib.Core.Bool.{Bool, cond}
+use mathlib.Core.List.{List}
+use lib.Dec.{eqb}
+use lib.ListN.{getD}
+use Rattle.manual.specs.declared.Level.the-variants.{Kept, To}
+use Rattle.manual.specs.Memory.{valueAt}
+use Rattle.harness.specs.Calls.{Called, stepOn, runOn, exceptionOn, interruptOn, rteOn}
+
+unfoldable pub asked : List ℕ → List ℕ → List ℕ → Called
+asked h b m =
+    let kind : ℕ = getD h 0 0 in
+    let vector : ℕ = getD h 1 0 in
+    let level : ℕ = getD h 2 0 in
+    let number : ℕ = valueAt h 6 4 in
+    cond (eqb kind 0) (stepOn b m)
+    (cond (eqb kind 1) (runOn b m number)
+    (cond (eqb kind 2) (exceptionOn b m vector number Kept)
+    (cond (eqb kind 3) (exceptionOn b m vector number (To level))
+    (cond (eqb kind 4) (interruptOn b m vector level) (rteOn b m)))))

@@ -1,0 +1,55 @@
+# Sourced by the scripts here, in this folder: finds what a program needs, builds it and runs it. Its
+# programs are for x86-64, as the archive is. On another processor they are built for it all the same
+# and run under the toolchain's emulator; a program of `no_main` with a C `main`, linked statically,
+# runs there, and Rust's own start-up code does not. So they have this shape on every machine.
+
+lacks() {
+    echo "$1"
+    exit 2
+}
+
+# Sets `rust`, the compiler's words, and `emulator`, empty where none is needed.
+find_rust() {
+    command -v rustc >/dev/null || lacks "rustc is not on the PATH"
+    rust=(rustc --edition 2021 -C opt-level=3 -C target-feature=+crt-static --cap-lints allow)
+    emulator=
+    [ "$(uname -m)" = x86_64 ] && return
+    local target=x86_64-unknown-linux-gnu
+    [ -d "$(rustc --print sysroot)/lib/rustlib/$target/lib" ] || lacks "rustc has no standard library for x86-64: install libstd-rust-web-dev:amd64 (after dpkg --add-architecture amd64)"
+    command -v x86_64-linux-gnu-gcc >/dev/null || lacks "there is no linker for x86-64: install gcc-x86-64-linux-gnu"
+    [ -e /usr/lib/x86_64-linux-gnu/libc.a ] || [ -e /usr/x86_64-linux-gnu/lib/libc.a ] || lacks "there is no C library for x86-64: install libc6-dev:amd64"
+    command -v rt >/dev/null || lacks "rt, whose emulator runs programs for x86-64, is not on the PATH"
+    emulator=$(cd "$(dirname "$(rt doc)")/.." && pwd)/on/$(uname -m)/toolchain/bin/qemu-x86_64
+    [ -x "$emulator" ] || lacks "$emulator, which runs programs for x86-64, is not there"
+    rust+=(--target "$target" -C linker=x86_64-linux-gnu-gcc)
+}
+
+# Sets `archive`, the folder of libharness.a.
+find_archive() {
+    archive=${HARNESS_LIB:-../target/staticlib}
+    [ -f "$archive/libharness.a" ] || lacks "$archive/libharness.a is not there: make it with 'rt staticlib harness', or give its folder in HARNESS_LIB"
+    archive=$(cd "$archive" && pwd)
+}
+
+# Sets `original`, the original's cpu.rs.
+find_original() {
+    local place
+    for place in ${ORACLE_CPU_RS:-../../shared/docs/src/cpu.rs /work/shared/docs/src/cpu.rs}; do
+        original=$(readlink -f "$place" || true)
+        [ -f "$original" ] && return
+    done
+    lacks "the original's cpu.rs is not there: give its path in ORACLE_CPU_RS"
+}
+
+# build PROGRAM FOLDER: compiles the wrapper and a program of src/bin over it to FOLDER/PROGRAM, over the archive
+# and the original where they were found.
+build() {
+    mkdir -p "$2"
+    "${rust[@]}" --crate-type rlib --crate-name host src/lib.rs -o "$2/libhost.rlib"
+    if [ -n "${original:-}" ]; then
+        printf '#[path = "%s"]\nmod cpu;\n' "$original" >"$2/original.rs"
+        set -- "$@" --cfg original
+    fi
+    OUT_DIR=$(cd "$2" && pwd) "${rust[@]}" --crate-name "$1" "src/bin/$1.rs" --extern host="$2/libhost.rlib" \
+        ${archive:+-L native="$archive" -l static=harness} "${@:3}" -o "$2/$1"
+}
