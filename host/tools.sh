@@ -45,14 +45,14 @@ find_original() {
 }
 
 # build PROGRAM FOLDER: compiles the wrapper and a program of src/bin over it to FOLDER/PROGRAM, over the archive
-# and the original where they were found.
+# and the original where they were found. The archive goes into the wrapper's library: a linker that reads its
+# files in order finds it there.
 build() {
     mkdir -p "$2"
-    "${rust[@]}" --crate-type rlib --crate-name host src/lib.rs -o "$2/libhost.rlib"
+    "${rust[@]}" --crate-type rlib --crate-name host src/lib.rs ${archive:+-L native="$archive" -l static=harness} -o "$2/libhost.rlib"
     if [ -n "${original:-}" ]; then
         printf '#[path = "%s"]\nmod cpu;\n' "$original" >"$2/original.rs"
         set -- "$@" --cfg original
     fi
-    OUT_DIR=$(cd "$2" && pwd) "${rust[@]}" --crate-name "$1" "src/bin/$1.rs" --extern host="$2/libhost.rlib" \
-        ${archive:+-L native="$archive" -l static=harness} "${@:3}" -o "$2/$1"
+    OUT_DIR=$(cd "$2" && pwd) "${rust[@]}" --crate-name "$1" "src/bin/$1.rs" --extern host="$2/libhost.rlib" "${@:3}" -o "$2/$1"
 }
