@@ -24,32 +24,35 @@ find_rust() {
     rust+=(--target "$target" -C linker=x86_64-linux-gnu-gcc)
 }
 
+# A path that was given is meant from where the script was called.
+given() { case $1 in /*) echo "$1" ;; *) echo "$OLDPWD/$1" ;; esac; }
+
 # Sets `archive`, the folder of libharness.a.
 find_archive() {
-    archive=${HARNESS_LIB:-../target/staticlib}
+    archive=../target/staticlib
+    [ -z "${HARNESS_LIB:-}" ] || archive=$(given "$HARNESS_LIB")
     [ -f "$archive/libharness.a" ] || lacks "$archive/libharness.a is not there: make it with 'rt staticlib harness', or give its folder in HARNESS_LIB"
     archive=$(cd "$archive" && pwd)
 }
 
 # Sets `original`, the original's cpu.rs.
 find_original() {
-    local place
-    for place in ${ORACLE_CPU_RS:-../../shared/docs/src/cpu.rs /work/shared/docs/src/cpu.rs}; do
-        original=$(readlink -f "$place" || true)
-        [ -f "$original" ] && return
-    done
-    lacks "the original's cpu.rs is not there: give its path in ORACLE_CPU_RS"
+    original=../../shared/docs/src/cpu.rs
+    [ -f "$original" ] || original=/work/shared/docs/src/cpu.rs
+    [ -z "${ORACLE_CPU_RS:-}" ] || original=$(given "$ORACLE_CPU_RS")
+    [ -f "$original" ] || lacks "the original's cpu.rs is not there: give its path in ORACLE_CPU_RS"
+    original=$(readlink -f "$original")
 }
 
 # build PROGRAM FOLDER: compiles the wrapper and a program of src/bin over it to FOLDER/PROGRAM, over the archive
-# and the original where they were found.
+# and the original where they were found. The archive goes into the wrapper's library: a linker that reads its
+# files in order finds it there.
 build() {
     mkdir -p "$2"
-    "${rust[@]}" --crate-type rlib --crate-name host src/lib.rs -o "$2/libhost.rlib"
+    "${rust[@]}" --crate-type rlib --crate-name host src/lib.rs ${archive:+-L native="$archive" -l static=harness} -o "$2/libhost.rlib"
     if [ -n "${original:-}" ]; then
         printf '#[path = "%s"]\nmod cpu;\n' "$original" >"$2/original.rs"
         set -- "$@" --cfg original
     fi
-    OUT_DIR=$(cd "$2" && pwd) "${rust[@]}" --crate-name "$1" "src/bin/$1.rs" --extern host="$2/libhost.rlib" \
-        ${archive:+-L native="$archive" -l static=harness} "${@:3}" -o "$2/$1"
+    OUT_DIR=$(cd "$2" && pwd) "${rust[@]}" --crate-name "$1" "src/bin/$1.rs" --extern host="$2/libhost.rlib" "${@:3}" -o "$2/$1"
 }

@@ -1,13 +1,13 @@
 -- The call that a record's head names: its kind, then the vector, the level, and from byte 6 a long, which is the budget of a run and else
 -- the program counter of the frame.
-use Prim.Native.Nat.{ℕ}
+use Prim.Native.Nat.{ℕ, _+_, _*_, min}
 use mathlib.Core.Bool.{Bool, cond}
-use mathlib.Core.List.{List}
+use mathlib.Core.List.{List, _++_}
 use lib.Dec.{eqb}
-use lib.ListN.{getD}
+use lib.ListN.{getD, length, take, drop}
 use Rattle.manual.specs.declared.Level.the-variants.{Kept, To}
 use Rattle.manual.specs.Memory.{valueAt}
-use Rattle.harness.specs.Calls.{Called, stepOn, runOn, exceptionOn, interruptOn, rteOn}
+use Rattle.harness.specs.Calls.{Called, called, stepOn, runOn, exceptionOn, interruptOn, rteOn}
 
 unfoldable pub asked : List ℕ → List ℕ → List ℕ → Called
 asked h b m =
@@ -20,3 +20,16 @@ asked h b m =
     (cond (eqb kind 2) (exceptionOn b m vector number Kept)
     (cond (eqb kind 3) (exceptionOn b m vector number (To level))
     (cond (eqb kind 4) (interruptOn b m vector level) (rteOn b m)))))
+
+-- how many bytes of the block and of the memory the call gets
+abbrev pub blockBytes : List ℕ → List ℕ → ℕ
+blockBytes h b = min (getD h 3 0) (length b)
+
+abbrev pub memoryBytes : List ℕ → List ℕ → ℕ
+memoryBytes h m = min (getD h 4 0 * 256 + getD h 5 0) (length m)
+
+-- the call on the first bytes of an array for the block and of one for the memory: the others stay
+unfoldable pub answered : List ℕ → List ℕ → List ℕ → Called
+answered h b m =
+    let k : Called = asked h (take (blockBytes h b) b) (take (memoryBytes h m) m) in
+    called (k .answer) (k .block ++ drop (blockBytes h b) b) (k .memory ++ drop (memoryBytes h m) m)

@@ -12,9 +12,11 @@ use memory::long_at;
 use memory::number::read_number;
 ghost use mathlib.Core.Path.{_≡_};
 ghost use Prim.Native.Nat.{_≤_, min};
+ghost use lib.Dec.{eqb};
 ghost use lib.ListN.{length};
+ghost use Rattle.manual.specs.Memory.{valueAt};
 ghost use Rattle.harness.specs.Calls.{called};
-ghost use Rattle.replay.specs.Asked.{asked};
+ghost use Rattle.replay.specs.Asked.{asked, answered};
 
 // Where the next record starts, and whether this one's answer is the expected one.
 pub struct Replayed {
@@ -58,7 +60,9 @@ fn call(head: &[u8; 16], block: &mut [u8], mem: &mut [u8]) -> u64
 }
 
 // Whether the call answers what the head expects, on as much of the block and the memory as it says.
-fn answers(head: &[u8; 16], block: &mut [u8], mem: &mut [u8]) -> bool {
+fn answers(head: &[u8; 16], block: &mut [u8], mem: &mut [u8]) -> bool
+    ensures { λ r. ⌜ (r ≡ eqb (answered (now (head .entry)) (now (block .entry)) (now (mem .entry)) .answer) (valueAt (now (head .entry)) 10 5)) × (now (block .exit) ≡ answered (now (head .entry)) (now (block .entry)) (now (mem .entry)) .block) × (now (mem .exit) ≡ answered (now (head .entry)) (now (block .entry)) (now (mem .entry)) .memory) ⌝ }
+{
     let b = least(wide(head[3]), block.len());
     let m = least(wide(head[4]) * 256 + wide(head[5]), mem.len());
     let lent_block = &mut block[..b];

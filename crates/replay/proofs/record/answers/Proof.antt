@@ -1,4 +1,5 @@
--- `replay::record::answers` is safe: what is lent is no longer than what there is. Assumes nothing.
+-- `replay::record::answers` meets its contract: what is lent is what the definition takes. Assumes nothing.
+use Rattle.replay.specs.Asked.{answered}
 use native.Mathlib.Omega.{arith}
 use lib.ListN.{length-take}
 use borrow.Author.Needs.{needs}
@@ -60,7 +61,13 @@ same-length-2 : tie.Need-same-length-2
 same-length-2 c = search needs
 
 returns : tie.Need-returns
-returns c = search needs
+unfolding answered
+returns c =
+    let k = c .before .before .before .before .before .before in let l2 = k .before .before .before in let w3 = l2 .before in let w2 = w3 .before .before in let l1 = w2 .before .before in let w1 = l1 .before in (
+      rw (← w1 .wide .ensures .0, ← l1 .least .ensures, ← w2 .wide2 .ensures .0, ← w3 .wide3 .ensures .0, ← l2 .least2 .ensures, ← k .call .ensures, ← c .read-number .ensures),
+      rw (← w1 .wide .ensures .0, ← l1 .least .ensures, ← w2 .wide2 .ensures .0, ← w3 .wide3 .ensures .0, ← l2 .least2 .ensures, ← k .call .ensures),
+      rw (← w1 .wide .ensures .0, ← l1 .least .ensures, ← w2 .wide2 .ensures .0, ← w3 .wide3 .ensures .0, ← l2 .least2 .ensures, ← k .call .ensures),
+    )
 
 pub answers-spec : {M : Type 1} → statement M
 answers-spec =
