@@ -1,9 +1,9 @@
 // The calls that a host makes in C: a state block and a memory, each a pointer and a length.
 use block::read::read_block;
 use block::store::store_block;
-use exceptions::calls::exception as exception_call;
-use exceptions::calls::interrupt as interrupt_call;
-use exceptions::calls::rte as rte_call;
+use exceptioncalls::entry::exception as exception_call;
+use exceptioncalls::entry::interrupt as interrupt_call;
+use exceptioncalls::entry::rte as rte_call;
 use machine::run::run as run_call;
 use machine::run::step as step_call;
 use manual::Cpu;

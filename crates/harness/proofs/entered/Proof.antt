@@ -8,7 +8,7 @@ use Rattle.harness.proofs.entered.Tie as tie
 use Rattle.harness.proofs.entered.Reads as reads
 use Rattle.harness.proofs.entered.Lts as lts
 use Rattle.block.proofs.read.read_block.Reads as read-block-reads
-use Rattle.exceptions.proofs.calls.exception.Reads as exception-reads
+use Rattle.exceptioncalls.proofs.entry.exception.Reads as exception-reads
 use Rattle.harness.proofs.block_reply.Reads as block-reply-reads
 use Rattle.harness.proofs.is_done.Reads as is-done-reads
 use Rattle.harness.proofs.number_of.Reads as number-of-reads
