@@ -1,8 +1,8 @@
--- `image::print::number_of` meets its contract. Assumes nothing.
+-- `replies::number_of` meets its contract. Assumes nothing.
 use borrow.Author.Needs.{needs}
 use Rattle.manual.specs.Reply.{numberOf}
-use Rattle.image.proofs.print.number_of.Statement.{statement}
-use Rattle.image.proofs.print.number_of.Tie as tie
+use Rattle.replies.proofs.number_of.Statement.{statement}
+use Rattle.replies.proofs.number_of.Tie as tie
 
 returns : tie.Need-returns
 unfolding numberOf
