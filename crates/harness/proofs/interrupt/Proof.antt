@@ -6,7 +6,7 @@ use Rattle.harness.proofs.interrupt.Tie as tie
 
 returns : tie.Need-returns
 unfolding interruptOn
-returns c = search needs
+returns c = c .before .before .before .before .on-block .ensures
 
 pub interrupt-spec : {M : Type 1} → statement M
 interrupt-spec =

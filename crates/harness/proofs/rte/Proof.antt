@@ -6,7 +6,7 @@ use Rattle.harness.proofs.rte.Tie as tie
 
 returns : tie.Need-returns
 unfolding rteOn
-returns c = search needs
+returns c = c .before .before .before .before .on-block .ensures
 
 pub rte-spec : {M : Type 1} → statement M
 rte-spec =

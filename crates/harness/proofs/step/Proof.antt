@@ -6,7 +6,7 @@ use Rattle.harness.proofs.step.Tie as tie
 
 returns : tie.Need-returns
 unfolding stepOn
-returns c = search needs
+returns c = c .before .before .before .before .on-block .ensures
 
 pub step-spec : {M : Type 1} → statement M
 step-spec =
