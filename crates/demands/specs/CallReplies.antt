@@ -41,33 +41,42 @@ told-number s v = by (admitted s)
     by true = refl
     by false = refl
 
-abbrev pick : Bool → ℕ → ℕ → ℕ
+abbrev pub pick : Bool → ℕ → ℕ → ℕ
 pick = cond
 
-pub not-2 : (s : Cpu) → (pick (admitted s) 0 2 ≡ 2) ↔ (admitted s ≡ false)
-not-2 s = laws.here-else 2 0 (λ h. omega arith) (admitted s)
+-- a: the state or the unit is admitted
+pub is-0 : (a : Bool) → (pick a 0 2 ≡ 0) ↔ (a ≡ true)
+is-0 a = laws.here 0 2 (λ h. omega arith) a
 
-pub zero-or-2 : (s : Cpu) → OneOf (0 ∷ 2 ∷ []) (pick (admitted s) 0 2)
-zero-or-2 s = laws.either-of (0 ∷ 2 ∷ []) (admitted s) 0 2 (inl refl) (inr (inl refl))
+pub not-2 : (a : Bool) → (pick a 0 2 ≡ 2) ↔ (a ≡ false)
+not-2 a = laws.here-else 2 0 (λ h. omega arith) a
+
+pub zero-or-2 : (a : Bool) → OneOf (0 ∷ 2 ∷ []) (pick a 0 2)
+zero-or-2 a = laws.either-of (0 ∷ 2 ∷ []) a 0 2 (inl refl) (inr (inl refl))
 
 -- of an accumulator: admitted, and its number below 4
-abbrev acc-tests : Cpu → ℕ → ℕ
-acc-tests s i = pick (admitted s) (pick (ltb i 4) 0 6) 2
+abbrev pub acc-tests : Bool → ℕ → ℕ
+acc-tests a i = pick a (pick (ltb i 4) 0 6) 2
 
-pub acc-2 : (s : Cpu) (i : ℕ) → (acc-tests s i ≡ 2) ↔ (admitted s ≡ false)
-acc-2 s i = laws.here-else 2 (pick (ltb i 4) 0 6) (laws.neither (ltb i 4) 0 6 2 (λ h. omega arith) (λ h. omega arith)) (admitted s)
+pub acc-0 : (a : Bool) (i : ℕ) → (acc-tests a i ≡ 0) ↔ ((a ≡ true) × (i < 4))
+acc-0 a i =
+    laws.iff-trans (laws.later-else 0 (pick (ltb i 4) 0 6) 2 (λ h. omega arith) a)
+    (laws.iff-and laws.iff-same (laws.iff-trans (laws.here 0 6 (λ h. omega arith) (ltb i 4)) (laws.iff-lt i 4)))
 
-pub acc-6 : (s : Cpu) (i : ℕ) → (acc-tests s i ≡ 6) ↔ ((admitted s ≡ true) × (4 ≤ i))
-acc-6 s i =
-    laws.iff-trans (laws.later-else 6 (pick (ltb i 4) 0 6) 2 (λ h. omega arith) (admitted s))
+pub acc-2 : (a : Bool) (i : ℕ) → (acc-tests a i ≡ 2) ↔ (a ≡ false)
+acc-2 a i = laws.here-else 2 (pick (ltb i 4) 0 6) (laws.neither (ltb i 4) 0 6 2 (λ h. omega arith) (λ h. omega arith)) a
+
+pub acc-6 : (a : Bool) (i : ℕ) → (acc-tests a i ≡ 6) ↔ ((a ≡ true) × (4 ≤ i))
+acc-6 a i =
+    laws.iff-trans (laws.later-else 6 (pick (ltb i 4) 0 6) 2 (λ h. omega arith) a)
     (laws.iff-and laws.iff-same (laws.iff-trans (laws.here-else 6 0 (λ h. omega arith) (ltb i 4)) (laws.iff-not-lt i 4)))
 
-pub acc-of : (s : Cpu) (i : ℕ) → OneOf (0 ∷ 2 ∷ 6 ∷ []) (acc-tests s i)
-acc-of s i =
+pub acc-of : (a : Bool) (i : ℕ) → OneOf (0 ∷ 2 ∷ 6 ∷ []) (acc-tests a i)
+acc-of a i =
     let l : List ℕ = 0 ∷ 2 ∷ 6 ∷ [] in
-    laws.either-of l (admitted s) _ 2 (laws.either-of l (ltb i 4) 0 6 (inl refl) (inr (inr (inl refl)))) (inr (inl refl))
+    laws.either-of l a _ 2 (laws.either-of l (ltb i 4) 0 6 (inl refl) (inr (inr (inl refl)))) (inr (inl refl))
 
-acc-told : (s : Cpu) (i v : ℕ) → numberOf (accTold s i v .reply) ≡ acc-tests s i
+acc-told : (s : Cpu) (i v : ℕ) → numberOf (accTold s i v .reply) ≡ acc-tests (admitted s) i
 unfolding numberOf
 acc-told s i v = by (admitted s) (ltb i 4)
   where
@@ -77,7 +86,7 @@ acc-told s i v = by (admitted s) (ltb i 4)
     by true false = refl
     by false b = refl
 
-acc-changed : (s : Cpu) (i : ℕ) (e : Emac) → numberOf (accChanged s i e .reply) ≡ acc-tests s i
+acc-changed : (s : Cpu) (i : ℕ) (e : Emac) → numberOf (accChanged s i e .reply) ≡ acc-tests (admitted s) i
 unfolding numberOf
 acc-changed s i e = by (admitted s) (ltb i 4)
   where
@@ -87,19 +96,19 @@ acc-changed s i e = by (admitted s) (ltb i 4)
     by true false = refl
     by false b = refl
 
-pub acc-get-number : (s : Cpu) (i : ℕ) → numberOf (accGetCall s i .reply) ≡ acc-tests s i
+pub acc-get-number : (s : Cpu) (i : ℕ) → numberOf (accGetCall s i .reply) ≡ acc-tests (admitted s) i
 unfolding accGetCall
 acc-get-number s i = acc-told s i _
 
-pub acc-phys-number : (s : Cpu) (i : ℕ) → numberOf (accPhysCall s i .reply) ≡ acc-tests s i
+pub acc-phys-number : (s : Cpu) (i : ℕ) → numberOf (accPhysCall s i .reply) ≡ acc-tests (admitted s) i
 unfolding accPhysCall
 acc-phys-number s i = acc-told s i _
 
-pub acc-set-number : (s : Cpu) (i v : ℕ) → numberOf (accSetCall s i v .reply) ≡ acc-tests s i
+pub acc-set-number : (s : Cpu) (i v : ℕ) → numberOf (accSetCall s i v .reply) ≡ acc-tests (admitted s) i
 unfolding accSetCall
 acc-set-number s i v = acc-changed s i _
 
-pub set-acc-phys-number : (s : Cpu) (i acc ext : ℕ) → numberOf (setAccPhysCall s i acc ext .reply) ≡ acc-tests s i
+pub set-acc-phys-number : (s : Cpu) (i acc ext : ℕ) → numberOf (setAccPhysCall s i acc ext .reply) ≡ acc-tests (admitted s) i
 unfolding setAccPhysCall
 set-acc-phys-number s i acc ext = acc-changed s i _
 
@@ -206,7 +215,7 @@ module _ (b : List ℕ) where
   pub of-store-2 : (s : Cpu) → (numberOf (storeBlock s b .reply) ≡ 2) ↔ ((length b ≡ 128) × (admitted s ≡ false))
   of-store-2 s =
       rw (store-number s)
-      (laws.iff-trans (laws.later-else 2 (pick (admitted s) 0 2) 9 (λ h. omega arith) (eqb (length b) 128)) (laws.iff-and (laws.iff-eq (length b) 128) (not-2 s)))
+      (laws.iff-trans (laws.later-else 2 (pick (admitted s) 0 2) 9 (λ h. omega arith) (eqb (length b) 128)) (laws.iff-and (laws.iff-eq (length b) 128) (not-2 (admitted s))))
 
   pub store-of : (s : Cpu) → OneOf (0 ∷ 2 ∷ 9 ∷ []) (numberOf (storeBlock s b .reply))
   store-of s =

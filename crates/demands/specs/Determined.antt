@@ -9,12 +9,12 @@ use Rattle.manual.specs.declared.Emac.{Emac}
 use Rattle.manual.specs.declared.Level.{Level}
 use Rattle.manual.specs.declared.Reply.{Reply}
 use Rattle.manual.specs.Exceptions.{exception, interrupt, rte, push32, pop32, setSrCall, ipl, supervisorCall}
-use Rattle.manual.specs.Emac.{accumulate, setMacsr, moveTo, clearAcc}
 use Rattle.manual.specs.EmacCalls.{accGetCall, accSetCall, accPhysCall, setAccPhysCall, setMacsrCall}
 use Rattle.manual.specs.Block.{fresh, readBlock, storeBlock}
 use Rattle.manual.specs.Image.{loadImage, runText, answerLine, textOf}
 use Rattle.instructions.specs.Step.{step}
 use Rattle.instructions.specs.Run.{run}
+use Rattle.emaclent.specs.UnitCalls as unit
 use Rattle.harness.specs.Calls.{stepOn, runOn, rteOn, exceptionOn, interruptOn}
 
 -- what a promise allows is what is equal to x; two such outcomes are equal
@@ -69,18 +69,18 @@ set-acc-phys-determined s i acc ext = determined (setAccPhysCall s i acc ext)
 pub set-macsr-determined : (s : Cpu) (v : ℕ) → Determined (setMacsrCall s v)
 set-macsr-determined s v = determined (setMacsrCall s v)
 
--- the unit lent: what it is at exit
-pub lent-accumulate-determined : (e : Emac) (i scale : ℕ) (sub : Bool) (x y : ℕ) → Determined (accumulate e i scale sub x y)
-lent-accumulate-determined e i scale sub x y = determined (accumulate e i scale sub x y)
+-- the unit lent: the reply, and what the unit is at exit
+pub lent-accumulate-determined : (e : Emac) (i scale : ℕ) (sub : Bool) (x y : ℕ) → Determined (unit.accumulateCall e i scale sub x y)
+lent-accumulate-determined e i scale sub x y = determined (unit.accumulateCall e i scale sub x y)
 
-pub lent-set-macsr-determined : (e : Emac) (v : ℕ) → Determined (setMacsr e v)
-lent-set-macsr-determined e v = determined (setMacsr e v)
+pub lent-set-macsr-determined : (e : Emac) (v : ℕ) → Determined (unit.setMacsrCall e v)
+lent-set-macsr-determined e v = determined (unit.setMacsrCall e v)
 
-pub lent-move-to-determined : (e : Emac) (i v : ℕ) → Determined (moveTo e i v)
-lent-move-to-determined e i v = determined (moveTo e i v)
+pub lent-move-to-determined : (e : Emac) (i v : ℕ) → Determined (unit.moveToCall e i v)
+lent-move-to-determined e i v = determined (unit.moveToCall e i v)
 
-pub lent-clear-acc-determined : (e : Emac) (i : ℕ) → Determined (clearAcc e i)
-lent-clear-acc-determined e i = determined (clearAcc e i)
+pub lent-clear-acc-determined : (e : Emac) (i : ℕ) → Determined (unit.clearAccCall e i)
+lent-clear-acc-determined e i = determined (unit.clearAccCall e i)
 
 pub fresh-determined : Determined fresh
 fresh-determined = determined fresh

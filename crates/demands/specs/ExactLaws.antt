@@ -4,6 +4,7 @@ use mathlib.Core.Bool.{false≢true}
 use mathlib.Core.List.{[], _∷_}
 use native.Mathlib.Omega.{arith}
 use Rattle.manual.specs.declared.Level.the-variants.{Kept, To}
+use Rattle.manual.specs.Admitted.{admitted}
 use Rattle.manual.specs.Exceptions.{maskOf}
 use Rattle.demands.specs.ReplyLaws as laws
 use Rattle.demands.specs.Exact.{Reply0, Reply1, Reply2, Reply3, Reply4, Reply5, Reply6, Reply7, Reply8And9, NoOthers}
@@ -35,14 +36,14 @@ reply-2 = record {
   rte-2 = of-rte-2;
   push32-2 = of-push-2;
   pop32-2 = of-pop-2;
-  set-sr-2 = λ s v. rw (set-sr-number s v) (not-2 s);
-  ipl-2 = λ s. rw (told-number s (maskOf (s .sr))) (not-2 s);
-  supervisor-2 = λ s. rw (told-number s _) (not-2 s);
-  acc-get-2 = λ s i. rw (acc-get-number s i) (acc-2 s i);
-  acc-phys-2 = λ s i. rw (acc-phys-number s i) (acc-2 s i);
-  acc-set-2 = λ s i v. rw (acc-set-number s i v) (acc-2 s i);
-  set-acc-phys-2 = λ s i acc ext. rw (set-acc-phys-number s i acc ext) (acc-2 s i);
-  set-macsr-2 = λ s v. rw (set-macsr-number s v) (not-2 s);
+  set-sr-2 = λ s v. rw (set-sr-number s v) (not-2 (admitted s));
+  ipl-2 = λ s. rw (told-number s (maskOf (s .sr))) (not-2 (admitted s));
+  supervisor-2 = λ s. rw (told-number s _) (not-2 (admitted s));
+  acc-get-2 = λ s i. rw (acc-get-number s i) (acc-2 (admitted s) i);
+  acc-phys-2 = λ s i. rw (acc-phys-number s i) (acc-2 (admitted s) i);
+  acc-set-2 = λ s i v. rw (acc-set-number s i v) (acc-2 (admitted s) i);
+  set-acc-phys-2 = λ s i acc ext. rw (set-acc-phys-number s i acc ext) (acc-2 (admitted s) i);
+  set-macsr-2 = λ s v. rw (set-macsr-number s v) (not-2 (admitted s));
 }
 
 pub reply-3 : Reply3
@@ -69,10 +70,10 @@ reply-6 = record {
   exception-6 = λ s m vector pc level. laws.iff-trans (of-exception-6 s m vector pc (To level)) (laws.iff-and laws.iff-same (laws.iff-not-lt level 8));
   exception-kept-6 = λ s m vector pc e. false≢true (sym (of-exception-6 s m vector pc Kept .0 e .1));
   interrupt-6 = of-interrupt-6;
-  acc-get-6 = λ s i. rw (acc-get-number s i) (acc-6 s i);
-  acc-phys-6 = λ s i. rw (acc-phys-number s i) (acc-6 s i);
-  acc-set-6 = λ s i v. rw (acc-set-number s i v) (acc-6 s i);
-  set-acc-phys-6 = λ s i acc ext. rw (set-acc-phys-number s i acc ext) (acc-6 s i);
+  acc-get-6 = λ s i. rw (acc-get-number s i) (acc-6 (admitted s) i);
+  acc-phys-6 = λ s i. rw (acc-phys-number s i) (acc-6 (admitted s) i);
+  acc-set-6 = λ s i v. rw (acc-set-number s i v) (acc-6 (admitted s) i);
+  set-acc-phys-6 = λ s i acc ext. rw (set-acc-phys-number s i acc ext) (acc-6 (admitted s) i);
 }
 
 pub reply-7 : Reply7
@@ -102,14 +103,14 @@ no-others = record {
   rte-of = of-rte;
   push32-of = of-push;
   pop32-of = of-pop;
-  set-sr-of = λ s v. laws.same-of (0 ∷ 2 ∷ []) (set-sr-number s v) (zero-or-2 s);
-  ipl-of = λ s. laws.same-of (0 ∷ 2 ∷ []) (told-number s (maskOf (s .sr))) (zero-or-2 s);
-  supervisor-of = λ s. laws.same-of (0 ∷ 2 ∷ []) (told-number s _) (zero-or-2 s);
-  acc-get-of = λ s i. laws.same-of (0 ∷ 2 ∷ 6 ∷ []) (acc-get-number s i) (acc-of s i);
-  acc-phys-of = λ s i. laws.same-of (0 ∷ 2 ∷ 6 ∷ []) (acc-phys-number s i) (acc-of s i);
-  acc-set-of = λ s i v. laws.same-of (0 ∷ 2 ∷ 6 ∷ []) (acc-set-number s i v) (acc-of s i);
-  set-acc-phys-of = λ s i acc ext. laws.same-of (0 ∷ 2 ∷ 6 ∷ []) (set-acc-phys-number s i acc ext) (acc-of s i);
-  set-macsr-of = λ s v. laws.same-of (0 ∷ 2 ∷ []) (set-macsr-number s v) (zero-or-2 s);
+  set-sr-of = λ s v. laws.same-of (0 ∷ 2 ∷ []) (set-sr-number s v) (zero-or-2 (admitted s));
+  ipl-of = λ s. laws.same-of (0 ∷ 2 ∷ []) (told-number s (maskOf (s .sr))) (zero-or-2 (admitted s));
+  supervisor-of = λ s. laws.same-of (0 ∷ 2 ∷ []) (told-number s _) (zero-or-2 (admitted s));
+  acc-get-of = λ s i. laws.same-of (0 ∷ 2 ∷ 6 ∷ []) (acc-get-number s i) (acc-of (admitted s) i);
+  acc-phys-of = λ s i. laws.same-of (0 ∷ 2 ∷ 6 ∷ []) (acc-phys-number s i) (acc-of (admitted s) i);
+  acc-set-of = λ s i v. laws.same-of (0 ∷ 2 ∷ 6 ∷ []) (acc-set-number s i v) (acc-of (admitted s) i);
+  set-acc-phys-of = λ s i acc ext. laws.same-of (0 ∷ 2 ∷ 6 ∷ []) (set-acc-phys-number s i acc ext) (acc-of (admitted s) i);
+  set-macsr-of = λ s v. laws.same-of (0 ∷ 2 ∷ []) (set-macsr-number s v) (zero-or-2 (admitted s));
   read-block-of = read-of;
   store-block-of = λ s b. store-of b s;
   load-image-of = load-of;

@@ -19,4 +19,5 @@ pub mod Host
 pub mod Handmade
 pub mod Followed
 pub mod Admits
+pub mod Units
 pub mod Determined

@@ -1,3 +1,2 @@
-pub mod calls;
 pub mod entry;
 pub mod status;

@@ -1,164 +1,118 @@
 // The calls that a host makes in C: a state block and a memory, each a pointer and a length.
 use block::read::read_block;
 use block::store::store_block;
-use exceptions::calls::exception as exception_call;
-use exceptions::calls::interrupt as interrupt_call;
-use exceptions::calls::rte as rte_call;
+use exceptioncalls::entry::exception as exception_call;
+use exceptioncalls::entry::interrupt as interrupt_call;
+use exceptioncalls::entry::rte as rte_call;
 use machine::run::run as run_call;
 use machine::run::step as step_call;
+use manual::Answer;
 use manual::Cpu;
 use manual::Level;
 use manual::Reply;
 use manual::Stepped;
+use replies::is_done;
+use replies::number_of;
 ghost use mathlib.Core.Path.{_≡_};
-ghost use mathlib.Core.Bool.{true, false};
-ghost use Prim.Native.Nat.{_+_, _*_, _<_};
+ghost use mathlib.Core.Bool.{true, false, cond};
+ghost use Prim.Native.Nat.{_+_, _*_, _≤_};
 ghost use Rattle.manual.specs.declared.Level.the-variants.{Kept, To};
-ghost use Rattle.manual.specs.Reply.{numberOf, isDone};
-ghost use Rattle.harness.specs.Calls.{called, blockReply, settled as settledOf, stepOn, runOn, exceptionOn, interruptOn, rteOn};
+ghost use Rattle.manual.specs.Reply.{outcome};
+ghost use Rattle.manual.specs.Block.{readBlock, storeBlock};
+ghost use Rattle.harness.specs.Calls.{called, blockReply, onBlock, stepOn, runOn, exceptionOn, interruptOn, rteOn};
+ghost use Rattle.harness.specs.Made.{opened as openedOf, made as madeOf};
 
-fn number_of(reply: Reply) -> u32
-    ensures { λ r. ⌜ (r ≡ numberOf reply) × (r < 10) ⌝ }
-{
-    match reply {
-        Reply::Done => 0,
-        Reply::TooLong => 1,
-        Reply::NotAdmitted => 2,
-        Reply::Stopped => 3,
-        Reply::NotInside => 4,
-        Reply::NotCarried => 5,
-        Reply::OutOfRange => 6,
-        Reply::Masked => 7,
-        Reply::WrongVersion => 8,
-        Reply::WrongLength => 9,
-    }
-}
-
-fn is_done(reply: Reply) -> bool
-    ensures { λ r. ⌜ r ≡ isDone reply ⌝ }
-{
-    match reply {
-        Reply::Done => true,
-        Reply::TooLong => false,
-        Reply::NotAdmitted => false,
-        Reply::Stopped => false,
-        Reply::NotInside => false,
-        Reply::NotCarried => false,
-        Reply::OutOfRange => false,
-        Reply::Masked => false,
-        Reply::WrongVersion => false,
-        Reply::WrongLength => false,
-    }
+// The calls that answer as a step does. A run answers a count.
+pub enum Call {
+    Step,
+    Rte,
+    Exception(u8, u32, Level),
+    Interrupt(u8, u8),
 }
 
 fn block_reply(reply: Reply, mem: &[u8]) -> Reply
     ensures { λ r. ⌜ r ≡ blockReply reply (now (mem .entry)) ⌝ }
 {
-    match reply {
-        Reply::Done => Reply::Done,
-        Reply::TooLong => Reply::TooLong,
-        Reply::NotAdmitted => {
-            if 0x100_0000 < mem.len() {
-                Reply::TooLong
-            } else {
-                Reply::NotAdmitted
-            }
-        }
-        Reply::Stopped => Reply::Stopped,
-        Reply::NotInside => Reply::NotInside,
-        Reply::NotCarried => Reply::NotCarried,
-        Reply::OutOfRange => Reply::OutOfRange,
-        Reply::Masked => Reply::Masked,
-        Reply::WrongVersion => Reply::WrongVersion,
-        Reply::WrongLength => Reply::WrongLength,
+    let Reply::NotAdmitted = reply else {
+        return reply;
+    };
+    if 0x100_0000 < mem.len() {
+        return Reply::TooLong;
+    }
+    Reply::NotAdmitted
+}
+
+// The state that the block holds, or the reply that refuses the block.
+fn opened(block: &[u8], mem: &[u8]) -> Answer
+    ensures { λ r. ⌜ r ≡ openedOf (now (block .entry)) (now (mem .entry)) ⌝ }
+{
+    let read = read_block(block);
+    let told = read.reply;
+    let given = read.cpu;
+    let reply = block_reply(told, mem);
+    Answer {
+        reply: reply,
+        cpu: given,
     }
 }
 
-// The new state goes into the block where the call was done.
-fn settle(reply: Reply, cpu: Cpu, block: &mut [u8])
-    ensures { λ _. ⌜ now (block .exit) ≡ settledOf reply cpu (now (block .entry)) ⌝ }
+// The new state goes into the block where something was done.
+fn settle(done: bool, cpu: Cpu, block: &mut [u8])
+    ensures { λ _. ⌜ now (block .exit) ≡ cond done (storeBlock cpu (now (block .entry)) .bytes) (now (block .entry)) ⌝ }
 {
-    if is_done(reply) {
+    if done {
         store_block(cpu, block);
     }
+}
+
+fn made(call: Call, cpu: Cpu, mem: &mut [u8]) -> Stepped
+    ensures { λ r. ⌜ outcome r (now (mem .exit)) ≡ madeOf call cpu (now (mem .entry)) ⌝ }
+{
+    match call {
+        Call::Step => step_call(cpu, mem),
+        Call::Rte => rte_call(cpu, &*mem),
+        Call::Exception(vector, pc, level) => exception_call(cpu, mem, vector, pc, level),
+        Call::Interrupt(vector, level) => interrupt_call(cpu, mem, vector, level),
+    }
+}
+
+// The vector counts `weight` times in the answer.
+fn on_block(block: &mut [u8], mem: &mut [u8], call: Call, weight: u32) -> u32
+    requires { ⌜ weight ≤ 256 ⌝ }
+    ensures { λ r. ⌜ called r (now (block .exit)) (now (mem .exit)) ≡ onBlock weight (readBlock (now (block .entry))) (madeOf call (readBlock (now (block .entry)) .cpu) (now (mem .entry))) (now (block .entry)) (now (mem .entry)) ⌝ }
+{
+    let read = opened(&*block, &*mem);
+    let given = read.cpu;
+    let refused = read.reply;
+    if !is_done(refused) {
+        return number_of(refused);
+    }
+    let stepped = made(call, given, mem);
+    let reply = stepped.reply;
+    let last = stepped.cpu;
+    settle(is_done(reply), last, block);
+    number_of(reply) + weight * stepped.vector as u32
 }
 
 #[no_mangle]
 pub extern "C" fn step(block: &mut [u8], mem: &mut [u8]) -> u32
     ensures { λ r. ⌜ called r (now (block .exit)) (now (mem .exit)) ≡ stepOn (now (block .entry)) (now (mem .entry)) ⌝ }
 {
-    let read = read_block(&*block);
-    let given = read.cpu;
-    let read_reply = read.reply;
-    if !is_done(read_reply) {
-        return number_of(block_reply(read_reply, &*mem));
-    }
-    let stepped = step_call(given, mem);
-    let reply = stepped.reply;
-    let last = stepped.cpu;
-    settle(reply, last, block);
-    number_of(reply) + 256 * stepped.vector as u32
-}
-
-#[no_mangle]
-pub extern "C" fn run(block: &mut [u8], mem: &mut [u8], budget: u32) -> u64
-    ensures { λ r. ⌜ called r (now (block .exit)) (now (mem .exit)) ≡ runOn (now (block .entry)) (now (mem .entry)) budget ⌝ }
-{
-    let read = read_block(&*block);
-    let given = read.cpu;
-    let read_reply = read.reply;
-    if !is_done(read_reply) {
-        return number_of(block_reply(read_reply, &*mem)) as u64;
-    }
-    let ran = run_call(given, mem, budget);
-    let reply = ran.reply;
-    let last = ran.cpu;
-    let answer = number_of(reply) as u64 + 256 * ran.count as u64;
-    if ran.count == 0 {
-        return answer;
-    }
-    store_block(last, block);
-    answer
+    on_block(block, mem, Call::Step, 256)
 }
 
 #[no_mangle]
 pub extern "C" fn rte(block: &mut [u8], mem: &mut [u8]) -> u32
     ensures { λ r. ⌜ called r (now (block .exit)) (now (mem .exit)) ≡ rteOn (now (block .entry)) (now (mem .entry)) ⌝ }
 {
-    let read = read_block(&*block);
-    let given = read.cpu;
-    let read_reply = read.reply;
-    if !is_done(read_reply) {
-        return number_of(block_reply(read_reply, &*mem));
-    }
-    let stepped = rte_call(given, &*mem);
-    let reply = stepped.reply;
-    let last = stepped.cpu;
-    settle(reply, last, block);
-    number_of(reply)
-}
-
-fn entered(block: &mut [u8], mem: &mut [u8], vector: u8, pc: u32, level: Level) -> u32
-    ensures { λ r. ⌜ called r (now (block .exit)) (now (mem .exit)) ≡ exceptionOn (now (block .entry)) (now (mem .entry)) vector pc level ⌝ }
-{
-    let read = read_block(&*block);
-    let given = read.cpu;
-    let read_reply = read.reply;
-    if !is_done(read_reply) {
-        return number_of(block_reply(read_reply, &*mem));
-    }
-    let stepped = exception_call(given, mem, vector, pc, level);
-    let reply = stepped.reply;
-    let last = stepped.cpu;
-    settle(reply, last, block);
-    number_of(reply)
+    on_block(block, mem, Call::Rte, 0)
 }
 
 #[no_mangle]
 pub extern "C" fn exception(block: &mut [u8], mem: &mut [u8], vector: u8, pc: u32) -> u32
     ensures { λ r. ⌜ called r (now (block .exit)) (now (mem .exit)) ≡ exceptionOn (now (block .entry)) (now (mem .entry)) vector pc Kept ⌝ }
 {
-    entered(block, mem, vector, pc, Level::Kept)
+    on_block(block, mem, Call::Exception(vector, pc, Level::Kept), 0)
 }
 
 #[no_mangle]
@@ -171,22 +125,29 @@ pub extern "C" fn exception_at(
 ) -> u32
     ensures { λ r. ⌜ called r (now (block .exit)) (now (mem .exit)) ≡ exceptionOn (now (block .entry)) (now (mem .entry)) vector pc (To level) ⌝ }
 {
-    entered(block, mem, vector, pc, Level::To(level))
+    on_block(block, mem, Call::Exception(vector, pc, Level::To(level)), 0)
 }
 
 #[no_mangle]
 pub extern "C" fn interrupt(block: &mut [u8], mem: &mut [u8], vector: u8, level: u8) -> u32
     ensures { λ r. ⌜ called r (now (block .exit)) (now (mem .exit)) ≡ interruptOn (now (block .entry)) (now (mem .entry)) vector level ⌝ }
 {
-    let read = read_block(&*block);
+    on_block(block, mem, Call::Interrupt(vector, level), 0)
+}
+
+#[no_mangle]
+pub extern "C" fn run(block: &mut [u8], mem: &mut [u8], budget: u32) -> u64
+    ensures { λ r. ⌜ called r (now (block .exit)) (now (mem .exit)) ≡ runOn (now (block .entry)) (now (mem .entry)) budget ⌝ }
+{
+    let read = opened(&*block, &*mem);
     let given = read.cpu;
-    let read_reply = read.reply;
-    if !is_done(read_reply) {
-        return number_of(block_reply(read_reply, &*mem));
+    let refused = read.reply;
+    if !is_done(refused) {
+        return number_of(refused) as u64;
     }
-    let stepped = interrupt_call(given, mem, vector, level);
-    let reply = stepped.reply;
-    let last = stepped.cpu;
-    settle(reply, last, block);
-    number_of(reply)
+    let ran = run_call(given, mem, budget);
+    let reply = ran.reply;
+    let last = ran.cpu;
+    settle(0 < ran.count, last, block);
+    number_of(reply) as u64 + 256 * ran.count as u64
 }

@@ -5,6 +5,7 @@ use manual::Cpu;
 use manual::Emac;
 use manual::Reply;
 use memory::long_at;
+use replies::is_done;
 use word::registers::with_address;
 use word::registers::with_pc;
 use word::registers::with_sr;
@@ -12,7 +13,6 @@ ghost use mathlib.Core.Path.{_≡_};
 ghost use Prim.Native.Nat.{_+_, _*_, _≤_};
 ghost use lib.ListN.{length, getD};
 ghost use Rattle.manual.specs.Memory.{valueAt};
-ghost use Rattle.manual.specs.Reply.{isDone};
 ghost use Rattle.manual.specs.Block.{fresh as freshOf};
 ghost use Rattle.manual.specs.Image.{imageState, imageReply, imageBytes, image, loadImage};
 
@@ -96,23 +96,6 @@ fn fill(file: &[u8], mem: &mut [u8])
     while at < mem.len() {
         mem[at] = image_byte(file, at);
         at += 1;
-    }
-}
-
-fn is_done(reply: Reply) -> bool
-    ensures { λ r. ⌜ r ≡ isDone reply ⌝ }
-{
-    match reply {
-        Reply::Done => true,
-        Reply::TooLong => false,
-        Reply::NotAdmitted => false,
-        Reply::Stopped => false,
-        Reply::NotInside => false,
-        Reply::NotCarried => false,
-        Reply::OutOfRange => false,
-        Reply::Masked => false,
-        Reply::WrongVersion => false,
-        Reply::WrongLength => false,
     }
 }
 

@@ -2,10 +2,10 @@
 use super::Text;
 use manual::Cpu;
 use manual::Reply;
+use replies::number_of;
 ghost use mathlib.Core.Path.{_≡_};
 ghost use mathlib.Core.List.{[], _∷_, _++_};
 ghost use Prim.Native.Nat.{_+_, _≤_, _<_};
-ghost use Rattle.manual.specs.Reply.{numberOf};
 ghost use Rattle.manual.specs.Image.{digit as digitOf, hex, decimal as decimalOf, longs as longsOf, newline, answerLine, stepsLine, srLine, dataLine, addressLine, runText, printed, textOf};
 ghost use Rattle.image.specs.Texts.{none as noneOf, put as putOf, appended};
 
@@ -92,23 +92,6 @@ fn longs(t: Text, g: &[u32; 16], from: usize) -> Text
         i += 1;
     }
     u
-}
-
-fn number_of(reply: Reply) -> u32
-    ensures { λ r. ⌜ (r ≡ numberOf reply) × (r < 10) ⌝ }
-{
-    match reply {
-        Reply::Done => 0,
-        Reply::TooLong => 1,
-        Reply::NotAdmitted => 2,
-        Reply::Stopped => 3,
-        Reply::NotInside => 4,
-        Reply::NotCarried => 5,
-        Reply::OutOfRange => 6,
-        Reply::Masked => 7,
-        Reply::WrongVersion => 8,
-        Reply::WrongLength => 9,
-    }
 }
 
 fn answer_line(t: Text, reply: Reply) -> Text

@@ -4,7 +4,7 @@ use image::file::read_image;
 use image::print::answer_text;
 use image::print::run_text;
 use machine::run::run;
-use manual::Reply;
+use replies::is_done;
 ghost use mathlib.Core.Path.{_≡_};
 ghost use Rattle.manual.specs.Image.{printed};
 ghost use Rattle.imagerun.specs.ImageRun.{imageRun, imageRan};
@@ -15,9 +15,9 @@ pub fn answer(file: &[u8], mem: &mut [u8]) -> Text
 {
     let loaded = read_image(file, mem);
     let reply = loaded.reply;
-    let Reply::Done = reply else {
+    if !is_done(reply) {
         return answer_text(reply);
-    };
+    }
     let cpu = loaded.cpu;
     let ran = run(cpu, mem, loaded.budget);
     let ended = ran.reply;

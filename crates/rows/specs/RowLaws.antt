@@ -10,7 +10,7 @@ use native.Mathlib.Decide.{decLt}
 use borrow.Author.Tests.{le-leb, lt-ltb}
 use lib.Bits.{bitAnd, and-shr, and-mask}
 use lib.Dec.{T, eqb, ltb, leb, eqb→eq, ltb→lt, leb→le}
-use lib.ListN.{getD, drop}
+use lib.ListN.{getD, drop, List·getD-eq-default}
 use Rattle.instructions.specs.Rows.{values, masks, value, mask, fixedBits, rowCount, Fits, IsRow, firstFit, rowOf}
 use Rattle.rows.specs.TableLaws.{allBelow, keep, below, allApart, nested, found, unfit, someWhole, some-later, some-fits}
 
@@ -165,6 +165,10 @@ where-both : (a b c : Bool) → a ≡ true → b ≡ true → T (elim a [ true �
 where-both true true c p q t = t
 where-both true false c p q t = absurd (false≢true q)
 where-both false b c p q t = absurd (false≢true p)
+
+-- no row stands past the last
+pub past-all : (r : ℕ) → rowCount ≤ r → 0 ≡ value r / 0x1000
+past-all r l = rw List·getD-eq-default
 
 -- which line's rows a row stands among
 pub line-at : (r line : ℕ) → r < rowCount → line < 16 → firstOf line ≤ r → r < firstOf (line + 1) → line ≡ value r / 0x1000

@@ -1,7 +1,7 @@
 // The row that an opcode word takes: by its line, and then by the line's rows in the order of the definition's table, those with more
 // fixed bits first. The rows stand in the code as cases, for a constant table is built on the stack again at each look into it.
 ghost use mathlib.Core.Path.{_≡_};
-ghost use Prim.Native.Nat.{_/_, _<_};
+ghost use Prim.Native.Nat.{_/_};
 ghost use Rattle.instructions.specs.Rows.{value, rowOf};
 ghost use Rattle.rows.specs.RowLaws.{Within};
 
@@ -686,7 +686,6 @@ pub fn row_of(word: u32) -> u8
 // The line of a row, by the line's first row. A word is sent to its line by its row: where a compiler knows the row it then knows the
 // line too.
 pub fn line_of(row: u8) -> u8
-    requires { ⌜ row < 124 ⌝ }
     ensures { λ line. ⌜ line ≡ value row / 0x1000 ⌝ }
 {
     if row < MOVEA_B {
@@ -734,5 +733,8 @@ pub fn line_of(row: u8) -> u8
     if row < WDEBUG {
         return 14;
     }
-    15
+    if row < 124 {
+        return 15;
+    }
+    0
 }

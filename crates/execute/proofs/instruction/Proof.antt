@@ -2,7 +2,6 @@ use Prim.Native.Nat.{ℕ, _≤_, _/_, _%_}
 use mathlib.Core.Path.{refl}
 use lib.ListN.{List·getD-eq-default}
 use Rattle.instructions.specs.Step.{instruction as instructionOf}
-use Rattle.rows.specs.RowLaws.{rowOf-lt}
 use Rattle.execute.proofs.ExecuteLaws.{line-is, moves-are, past-lines}
 use borrow.Author.Needs.{needs}
 use Rattle.execute.proofs.instruction.Statement.{statement}
@@ -32,7 +31,7 @@ row-of-requires c κs = search needs
 
 -- src/execute.rt:45:9
 line-of-requires : tie.Need-line-of-requires
-line-of-requires c κs = rw (c .row-of .ensures) (rowOf-lt _)
+line-of-requires c κs = search needs
 
 -- src/execute.rt:47:14
 line0-requires : tie.Need-line0-requires
