@@ -5,7 +5,7 @@ ghost use lib.ListN.{length, getD, drop};
 ghost use lib.Seq.{paste as pasteOf};
 ghost use Rattle.replay.specs.Patches.{put as putOf, nextAt, nextPlace, putRun, patched, patch as patchedOf};
 
-pub fn wide(b: u8) -> usize
+pub(crate) fn wide(b: u8) -> usize
     ensures { λ r. ⌜ (r ≡ b) × (r < 256) ⌝ }
 {
     b as usize
@@ -80,7 +80,7 @@ fn put_run(file: &[u8], from: Spot, to: &mut [u8]) -> Spot
 }
 
 // Puts the runs that the file has at `from` into `to`, and returns the place after them.
-pub fn patch(file: &[u8], from: usize, to: &mut [u8]) -> usize
+pub(crate) fn patch(file: &[u8], from: usize, to: &mut [u8]) -> usize
     requires { ⌜ from ≤ length (now file) ⌝ }
     ensures { λ r. ⌜ (patched r (now (to .exit)) ≡ patchedOf (now (file .entry)) from (now (to .entry))) × (r ≤ length (now (file .entry))) ⌝ }
 {

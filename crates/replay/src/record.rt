@@ -71,7 +71,7 @@ fn answers(head: &[u8; 16], block: &mut [u8], mem: &mut [u8]) -> bool
 }
 
 // The arrays hold what the record before this one left. The block and the memory after it are those expected.
-pub fn record(
+pub(crate) fn record(
     file: &[u8],
     from: usize,
     head: &mut [u8; 16],
