@@ -8,28 +8,15 @@ ghost use Prim.Native.Nat.{_<_};
 ghost use lib.IntN.{natAbs};
 ghost use Rattle.manual.specs.Word.{signed};
 ghost use Rattle.manual.specs.declared.Size.the-variants.{Long};
-ghost use Rattle.manual.specs.Divide.{quotient as quotientOf, signedQuotient, overflowCodes};
+ghost use Rattle.manual.specs.Divide.{noQuotient, quotient as quotientOf, signedQuotient, overflowCodes};
 
-// DIVU.L, REMU.L.
-pub fn quotient(a: u32, b: u32) -> Quotient
-    requires { ⌜ 0 < b ⌝ }
-    ensures { λ r. ⌜ r ≡ quotientOf a b ⌝ }
+fn no_quotient() -> Quotient
+    ensures { λ r. ⌜ r ≡ noQuotient ⌝ }
 {
     Quotient {
-        fits: true,
-        quotient: a / b,
-        remainder: a % b,
-    }
-}
-
-// How far a signed long is from 0.
-fn magnitude(a: u32) -> u32
-    ensures { λ r. ⌜ r ≡ natAbs (signed Long a) ⌝ }
-{
-    if a < 0x8000_0000 {
-        a
-    } else {
-        0xFFFF_FFFF - a + 1
+        fits: false,
+        quotient: 0,
+        remainder: 0,
     }
 }
 
@@ -43,8 +30,29 @@ fn fitting(q: u32, r: u32) -> Quotient
     }
 }
 
-// DIVS.L, REMS.L. The one quotient that does not fit is that of -2^31 by -1.
-pub fn signed_quotient(a: u32, b: u32) -> Quotient
+// DIVU.L, REMU.L.
+pub fn quotient(a: u32, b: u32) -> Quotient
+    ensures { λ r. ⌜ r ≡ quotientOf a b ⌝ }
+{
+    if b == 0 {
+        return no_quotient();
+    }
+    fitting(a / b, a % b)
+}
+
+// How far a signed long is from 0.
+fn magnitude(a: u32) -> u32
+    ensures { λ r. ⌜ r ≡ natAbs (signed Long a) ⌝ }
+{
+    if a < 0x8000_0000 {
+        a
+    } else {
+        0xFFFF_FFFF - a + 1
+    }
+}
+
+// The one quotient that does not fit is that of -2^31 by -1.
+fn by_magnitudes(a: u32, b: u32) -> Quotient
     requires { ⌜ 0 < b ⌝ }
     ensures { λ r. ⌜ r ≡ signedQuotient a b ⌝ }
 {
@@ -64,11 +72,17 @@ pub fn signed_quotient(a: u32, b: u32) -> Quotient
     if q < 0x8000_0000 {
         return fitting(q, minus(0, r));
     }
-    Quotient {
-        fits: false,
-        quotient: 0,
-        remainder: 0,
+    no_quotient()
+}
+
+// DIVS.L, REMS.L.
+pub fn signed_quotient(a: u32, b: u32) -> Quotient
+    ensures { λ r. ⌜ r ≡ signedQuotient a b ⌝ }
+{
+    if b == 0 {
+        return no_quotient();
     }
+    by_magnitudes(a, b)
 }
 
 // An overflow of DIVS.L.

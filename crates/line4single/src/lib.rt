@@ -21,7 +21,6 @@ use manual::Quotient;
 use manual::Size;
 use manual::Write;
 use memory::load;
-use word::bits::with_bit;
 use word::flags::extended_codes;
 use word::flags::move_codes;
 use word::flags::subtracted;
@@ -35,11 +34,12 @@ use word::word::plus;
 use word::word::sign_extended;
 use word::word::size_of;
 ghost use mathlib.Core.Path.{_≡_};
-ghost use mathlib.Core.Bool.{cond};
+ghost use mathlib.Core.Bool.{true, cond};
 ghost use lib.Dec.{eqb};
 ghost use Prim.Native.Nat.{_+_, _*_, _/_, _%_, _<_};
 ghost use Rattle.manual.specs.declared.Size.the-variants.{Long};
 ghost use Rattle.manual.specs.Word.{plus as plusOf};
+ghost use Rattle.manual.specs.Bits.{withBit};
 ghost use Rattle.manual.specs.Registers.{noWrite, writeData};
 ghost use Rattle.manual.specs.Flags.{moveCodes};
 ghost use Rattle.manual.specs.Multiply.{longProduct, signedLongProduct};
@@ -166,6 +166,12 @@ pub fn tst(g: &[u32; 16], at: u32, sr: u16, mem: &[u8], op: u32) -> Change
     done(next, codes, first, no_write())
 }
 
+fn with_bit_7(v: u32) -> u32
+    ensures { λ r. ⌜ r ≡ withBit 7 true v ⌝ }
+{
+    if v / 0x80 % 2 == 1 { v } else { v + 0x80 }
+}
+
 pub fn tas(g: &[u32; 16], at: u32, sr: u16, mem: &[u8], op: u32) -> Change
     ensures { λ e. ⌜ e ≡ testAndSet (now (g .entry)) at sr (now (mem .entry)) op ⌝ }
 {
@@ -188,7 +194,7 @@ pub fn tas(g: &[u32; 16], at: u32, sr: u16, mem: &[u8], op: u32) -> Change
         none,
         place,
         Size::Byte,
-        with_bit(7, true, v),
+        with_bit_7(v),
     )
 }
 
@@ -224,7 +230,6 @@ pub fn mul_l(g: &[u32; 16], at: u32, sr: u16, mem: &[u8], op: u32) -> Change
 }
 
 fn divided(w: u32, d: u32, v: u32) -> Quotient
-    requires { ⌜ 0 < v ⌝ }
     ensures { λ q. ⌜ q ≡ dividedOf w d v ⌝ }
 {
     if w / 0x800 % 2 == 1 {

@@ -1,2 +1,3 @@
+mod bits;
 pub mod line0;
 pub mod moves;

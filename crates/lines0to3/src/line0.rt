@@ -1,4 +1,6 @@
 // Line 0: bit operations and immediates.
+use super::bits::bit_of;
+use super::bits::changed_bit;
 use address::changes::done;
 use address::changes::illegal;
 use address::changes::put;
@@ -16,8 +18,6 @@ use manual::Logic;
 use manual::Operand;
 use manual::Size;
 use memory::load;
-use word::bits::bit_of;
-use word::bits::changed_bit;
 use word::bits::logic;
 use word::bits::reversed_bits;
 use word::bits::reversed_bytes;

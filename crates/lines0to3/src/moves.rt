@@ -16,9 +16,9 @@ use manual::Write;
 use word::flags::kept_codes;
 use word::flags::move_codes;
 use word::registers::data;
+use word::registers::write;
 use word::registers::write_address;
 use word::registers::write_data;
-use word::registers::written;
 use word::word::merged;
 use word::word::plus;
 use word::word::sign_extended;
@@ -62,7 +62,8 @@ fn op_move(z: Size, g: &[u32; 16], at: u32, sr: u16, mem: &[u8], op: u32) -> Cha
         let codes = move_codes(z, v, sr);
         done(next, codes, first, write_data(op / 512, merged(z, old, v)))
     } else {
-        let after = written(g, first);
+        let mut after = *g;
+        write(&mut after, first);
         let target = operand(mode, op / 512 % 8);
         move_to(z, &after, sr, mem, next, first, target, v)
     }

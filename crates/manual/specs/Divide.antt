@@ -1,7 +1,8 @@
 -- Quotients and remainders of longs, rounded toward zero; the remainder has the dividend's sign.
--- The manual: DIVS.L, DIVU.L, REMS.L, REMU.L. The divisor is not 0 here.
+-- The manual: DIVS.L, DIVU.L, REMS.L, REMU.L. By 0 there is none.
 use mathlib.Core.Bool.{Bool, true, false, cond}
 use Prim.Native.Nat.{ℕ, _+_, _*_, _/_, _%_, _^_}
+use lib.Dec.{eqb}
 use lib.IntN.{ℤ}
 use lib.Signed.{quotZ, remZ}
 use Rattle.manual.specs.declared.Size.the-variants.{Long}
@@ -9,17 +10,21 @@ use Rattle.manual.specs.declared.Quotient.{Quotient}
 use Rattle.manual.specs.Word.{signed, fits, modZ}
 use Rattle.manual.specs.Flags.{codes, flagX, flagN}
 
+abbrev pub noQuotient : Quotient
+noQuotient = record { fits = false; quotient = 0; remainder = 0 }
+
 -- DIVU.L, REMU.L: a over b
 unfoldable pub quotient : ℕ → ℕ → Quotient
-quotient a b = record { fits = true; quotient = a / b; remainder = a % b }
+quotient a b = cond (eqb b 0) noQuotient (record { fits = true; quotient = a / b; remainder = a % b })
 
 -- DIVS.L, REMS.L: a quotient that is no signed long is an overflow, and there is no result
 unfoldable pub signedQuotient : ℕ → ℕ → Quotient
 signedQuotient a b =
     let q : ℤ = quotZ (signed Long a) (signed Long b) in
-    cond (fits Long q)
+    cond (eqb b 0) noQuotient
+    (cond (fits Long q)
     (record { fits = true; quotient = modZ q (2 ^ 32); remainder = modZ (remZ (signed Long a) (signed Long b)) (2 ^ 32) })
-    (record { fits = false; quotient = 0; remainder = 0 })
+    noQuotient)
 
 -- ---- 33. An overflow sets V, clears Z and C, and keeps N. The manual: N is cleared
 unfoldable pub overflowCodes : ℕ → ℕ

@@ -1,9 +1,7 @@
-// Single bits, their order, and AND, OR, EOR.
-use super::flags::bit;
+// AND, OR, EOR, and the order of bits and bytes.
 use manual::Logic;
 ghost use mathlib.Core.Path.{_≡_};
-ghost use Prim.Native.Nat.{_<_};
-ghost use Rattle.manual.specs.Bits.{logic as logicOf, bitOf, withBit, changedBit, reversedBits, reversedBytes};
+ghost use Rattle.manual.specs.Bits.{logic as logicOf, reversedBits, reversedBytes};
 
 pub fn logic(l: Logic, a: u32, b: u32) -> u32
     ensures { λ r. ⌜ r ≡ logicOf l a b ⌝ }
@@ -12,34 +10,6 @@ pub fn logic(l: Logic, a: u32, b: u32) -> u32
         Logic::And => a & b,
         Logic::Or => a | b,
         Logic::Eor => a ^ b,
-    }
-}
-
-pub fn bit_of(n: u32, v: u32) -> bool
-    requires { ⌜ n < 32 ⌝ }
-    ensures { λ r. ⌜ r ≡ bitOf n v ⌝ }
-{
-    (v >> n) % 2 == 1
-}
-
-pub fn with_bit(n: u32, b: bool, v: u32) -> u32
-    requires { ⌜ n < 32 ⌝ }
-    ensures { λ r. ⌜ r ≡ withBit n b v ⌝ }
-{
-    let old = bit(bit_of(n, v)) << n;
-    let new = bit(b) << n;
-    v - old + new
-}
-
-pub fn changed_bit(kind: u32, n: u32, v: u32) -> u32
-    requires { ⌜ n < 32 ⌝ }
-    ensures { λ r. ⌜ r ≡ changedBit kind n v ⌝ }
-{
-    match kind % 4 {
-        0 => v,
-        1 => with_bit(n, !bit_of(n, v), v),
-        2 => with_bit(n, false, v),
-        _ => with_bit(n, true, v),
     }
 }
 

@@ -70,14 +70,6 @@ pub fn write(g: &mut [u32; 16], w: Write)
     }
 }
 
-pub fn written(g: &[u32; 16], w: Write) -> [u32; 16]
-    ensures { λ h. ⌜ h ≡ writtenOf w (now (g .entry)) ⌝ }
-{
-    let mut after = *g;
-    write(&mut after, w);
-    after
-}
-
 // An address register as it is after a write, with no copy of the registers. The slice says how many there are.
 pub fn address_after(g: &[u32; 16], w: Write, r: u32) -> u32
     ensures { λ v. ⌜ v ≡ addressOf (writtenOf w (now (g .entry))) r ⌝ }

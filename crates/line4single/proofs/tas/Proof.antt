@@ -19,7 +19,7 @@ returns-2 : tie.Need-returns-2
 unfolding testAndSetOf
 returns-2 c =
     let c1 = c .before in let c2 = c1 .before in let c3 = c2 .before in let c4 = c3 .before in let c5 = c4 .before in let c6 = c5 .before in let c7 = c6 .before in let c8 = c7 .before in let c9 = c8 .before in let c10 = c9 .before in let c11 = c10 .before in let c12 = c11 .before in let c13 = c12 .before in
-    rw (← c13 .plus .ensures, ← c12 .operand .ensures, ← c11 .locate .ensures, ← c10 .fetch .ensures, c8 .v .given .1, ← c6 .extension .ensures, ← c5 .plus2 .ensures, ← c4 .move-codes .ensures, ← c3 .moved .ensures, ← c2 .no-write .ensures, ← c1 .with-bit .ensures, ← c .put .ensures)
+    rw (← c13 .plus .ensures, ← c12 .operand .ensures, ← c11 .locate .ensures, ← c10 .fetch .ensures, c8 .v .given .1, ← c6 .extension .ensures, ← c5 .plus2 .ensures, ← c4 .move-codes .ensures, ← c3 .moved .ensures, ← c2 .no-write .ensures, ← c1 .with-bit-7 .ensures, ← c .put .ensures)
 
 pub tas-spec : {M : Type 1} → statement M
 tas-spec =

@@ -13,8 +13,8 @@ use Rattle.address.proofs.operands.fetch.Reads as fetch-reads
 use Rattle.address.proofs.operands.locate.Reads as locate-reads
 use Rattle.address.proofs.operands.moved.Reads as moved-reads
 use Rattle.address.proofs.operands.operand.Reads as operand-reads
-use Rattle.word.proofs.bits.bit_of.Reads as bit-of-reads
-use Rattle.word.proofs.bits.changed_bit.Reads as changed-bit-reads
+use Rattle.lines0to3.proofs.bits.bit_of.Reads as bit-of-reads
+use Rattle.lines0to3.proofs.bits.changed_bit.Reads as changed-bit-reads
 use Rattle.word.proofs.flags.test_codes.Reads as test-codes-reads
 use Rattle.word.proofs.registers.no_write.Reads as no-write-reads
 use Rattle.word.proofs.word.plus.Reads as plus-reads

@@ -5,8 +5,8 @@ use Rattle.lines0to3.proofs.line0.bit_of_data.Tie as tie
 use Rattle.lines0to3.proofs.line0.bit_of_data.Reads as reads
 use Rattle.lines0to3.proofs.line0.bit_of_data.Lts as lts
 use Rattle.address.proofs.changes.done.Reads as done-reads
-use Rattle.word.proofs.bits.bit_of.Reads as bit-of-reads
-use Rattle.word.proofs.bits.changed_bit.Reads as changed-bit-reads
+use Rattle.lines0to3.proofs.bits.bit_of.Reads as bit-of-reads
+use Rattle.lines0to3.proofs.bits.changed_bit.Reads as changed-bit-reads
 use Rattle.word.proofs.flags.test_codes.Reads as test-codes-reads
 use Rattle.word.proofs.registers.data.Reads as data-reads
 use Rattle.word.proofs.registers.no_write.Reads as no-write-reads

@@ -13,7 +13,7 @@ use Rattle.lines0to3.proofs.moves.move_to.Reads as move-to-reads
 use Rattle.word.proofs.flags.move_codes.Reads as move-codes-reads
 use Rattle.word.proofs.registers.data.Reads as data-reads
 use Rattle.word.proofs.registers.write_data.Reads as write-data-reads
-use Rattle.word.proofs.registers.written.Reads as written-reads
+use Rattle.word.proofs.registers.write.Reads as write-reads
 use Rattle.word.proofs.word.merged.Reads as merged-reads
 use Rattle.word.proofs.word.plus.Reads as plus-reads
 
@@ -65,8 +65,8 @@ done-requires : tie.Need-done-requires
 done-requires c κs = search needs
 
 -- src/moves.rt:64:21
-written-requires : tie.Need-written-requires
-written-requires c κs = search needs
+write-requires : tie.Need-write-requires
+write-requires c κs = search needs
 
 -- src/moves.rt:65:13
 operand-requires : tie.Need-operand-requires
@@ -87,8 +87,8 @@ returns-2 c =
 returns-3 : tie.Need-returns-3
 unfolding moveOf
 returns-3 c =
-    let c1 = c .before in let c2 = c1 .before in let c3 = c2 .before in let c4 = c3 .before in let c5 = c4 .before in let c6 = c5 .before in let c7 = c6 .before in let c8 = c7 .before in let c9 = c8 .before in let c10 = c9 .before in
-    rw (← c10 .plus .ensures, ← c9 .source .ensures, c7 .got .given .1, ne-eqb _ _ (c4 .if1 .left), ← c3 .written .ensures, ← c2 .operand .ensures, ← c .move-to .ensures)
+    let c1 = c .before in let c2 = c1 .before in let c3 = c2 .before in let c4 = c3 .before in let c5 = c4 .before in let c6 = c5 .before in let c7 = c6 .before in let c8 = c7 .before in let c9 = c8 .before in let c10 = c9 .before in let c11 = c10 .before in let c12 = c11 .before in
+    rw (← c12 .plus .ensures, ← c11 .source .ensures, c9 .got .given .1, ne-eqb _ _ (c6 .if1 .left), ← c3 .write .ensures, ← c2 .operand .ensures, ← c .move-to .ensures)
 
 pub op-move-spec : {M : Type 1} → statement M
 op-move-spec =
@@ -105,7 +105,7 @@ op-move-spec =
     merged-requires
     write-data-requires
     done-requires
-    written-requires
+    write-requires
     operand-requires
     move-to-requires
     returns-2

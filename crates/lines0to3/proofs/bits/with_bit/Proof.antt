@@ -1,8 +1,8 @@
 use Rattle.manual.specs.Bits.{bitOf, withBit}
 use Rattle.word.specs.BitLaws.{bit-placed, bit-inside, with-below}
 use borrow.Author.Needs.{needs}
-use Rattle.word.proofs.bits.with_bit.Statement.{statement}
-use Rattle.word.proofs.bits.with_bit.Tie as tie
+use Rattle.lines0to3.proofs.bits.with_bit.Statement.{statement}
+use Rattle.lines0to3.proofs.bits.with_bit.Tie as tie
 
 sub-result : tie.Need-sub-result
 sub-result c =

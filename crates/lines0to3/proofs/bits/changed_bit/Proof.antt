@@ -2,11 +2,11 @@ use mathlib.Core.Path.{_≡_}
 use Prim.Native.Nat.{_%_}
 use native.Mathlib.Omega.{arith}
 use Rattle.manual.specs.Bits.{changedBit}
 use Rattle.word.specs.TestLaws.{past}
 use Rattle.word.specs.BitLaws.{with-same}
 use borrow.Author.Needs.{needs}
-use Rattle.word.proofs.bits.changed_bit.Statement.{statement}
-use Rattle.word.proofs.bits.changed_bit.Tie as tie
+use Rattle.lines0to3.proofs.bits.changed_bit.Statement.{statement}
+use Rattle.lines0to3.proofs.bits.changed_bit.Tie as tie
 
 returns : tie.Need-returns
 unfolding changedBit
