@@ -8,14 +8,18 @@ lacks() {
     exit 2
 }
 
-# Sets `rust`, the compiler's words, and `emulator`, empty where none is needed.
+# Sets `rust`, the compiler's words, and `emulator`, empty where none is needed. Debian's compiler is also asked: another one that
+# stands before it on the PATH may have no library for x86-64.
 find_rust() {
-    command -v rustc >/dev/null || lacks "rustc is not on the PATH"
-    rust=(rustc --edition 2021 -C opt-level=3 -C target-feature=+crt-static --cap-lints allow)
+    local compiler target=x86_64-unknown-linux-gnu
+    for compiler in rustc /usr/bin/rustc; do
+        rust=("$compiler" --edition 2021 -C opt-level=3 -C target-feature=+crt-static --cap-lints allow)
+        [ ! -d "$("$compiler" --print sysroot 2>/dev/null)/lib/rustlib/$target/lib" ] || break
+    done
+    command -v "$compiler" >/dev/null || lacks "rustc is not on the PATH"
     emulator=
-    [ "$(uname -m)" = x86_64 ] && return
-    local target=x86_64-unknown-linux-gnu
-    [ -d "$(rustc --print sysroot)/lib/rustlib/$target/lib" ] || lacks "rustc has no standard library for x86-64: install libstd-rust-web-dev:amd64 (after dpkg --add-architecture amd64)"
+    [ "$(uname -m)" != x86_64 ] || return 0
+    [ -d "$("$compiler" --print sysroot)/lib/rustlib/$target/lib" ] || lacks "rustc has no standard library for x86-64: install rustc-web and libstd-rust-web-dev:amd64 (after dpkg --add-architecture amd64)"
     command -v x86_64-linux-gnu-gcc >/dev/null || lacks "there is no linker for x86-64: install gcc-x86-64-linux-gnu"
     [ -e /usr/lib/x86_64-linux-gnu/libc.a ] || [ -e /usr/x86_64-linux-gnu/lib/libc.a ] || lacks "there is no C library for x86-64: install libc6-dev:amd64"
     command -v rt >/dev/null || lacks "rt, whose emulator runs programs for x86-64, is not on the PATH"
