@@ -2,45 +2,7 @@ use Rattle.instructions.specs.Line0.{bitReverse as bitReverseOf}
 use borrow.Author.Needs.{needs}
 use Rattle.lines0to3.proofs.line0.bitrev.Statement.{statement}
 use Rattle.lines0to3.proofs.line0.bitrev.Tie as tie
-use Rattle.lines0to3.proofs.line0.bitrev.Reads as reads
-use Rattle.lines0to3.proofs.line0.bitrev.Lts as lts
-use Rattle.address.proofs.changes.done.Reads as done-reads
-use Rattle.word.proofs.bits.reversed_bits.Reads as reversed-bits-reads
-use Rattle.word.proofs.flags.kept_codes.Reads as kept-codes-reads
-use Rattle.word.proofs.registers.data.Reads as data-reads
-use Rattle.word.proofs.registers.no_write.Reads as no-write-reads
-use Rattle.word.proofs.registers.write_data.Reads as write-data-reads
-use Rattle.word.proofs.word.plus.Reads as plus-reads
 
--- src/line0.rt:42:9
-plus-requires : tie.Need-plus-requires
-plus-requires c κs = search needs
-
--- src/line0.rt:43:9
-kept-codes-requires : tie.Need-kept-codes-requires
-kept-codes-requires c κs = search needs
-
--- src/line0.rt:44:9
-no-write-requires : tie.Need-no-write-requires
-no-write-requires c κs = search needs
-
--- src/line0.rt:49:38
-data-requires : tie.Need-data-requires
-data-requires c κs = search needs
-
--- src/line0.rt:49:24
-reversed-bits-requires : tie.Need-reversed-bits-requires
-reversed-bits-requires c κs = search needs
-
--- src/line0.rt:49:9
-write-data-requires : tie.Need-write-data-requires
-write-data-requires c κs = search needs
-
--- src/line0.rt:45:5
-done-requires : tie.Need-done-requires
-done-requires c κs = search needs
-
--- src/line0.rt:39:1
 returns : tie.Need-returns
 unfolding bitReverseOf
 returns c =
@@ -51,11 +13,11 @@ pub bitrev-spec : {M : Type 1} → statement M
 bitrev-spec =
     tie.close
     (tie.spec
-    plus-requires
-    kept-codes-requires
-    no-write-requires
-    data-requires
-    reversed-bits-requires
-    write-data-requires
-    done-requires
+    (λ c κs. search needs)
+    (λ c κs. search needs)
+    (λ c κs. search needs)
+    (λ c κs. search needs)
+    (λ c κs. search needs)
+    (λ c κs. search needs)
+    (λ c κs. search needs)
     returns)
