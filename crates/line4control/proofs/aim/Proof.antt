@@ -3,23 +3,11 @@ use borrow.Author.Needs.{needs}
 use Rattle.line4control.proofs.aim.Statement.{statement}
 use Rattle.line4control.proofs.aim.Tie as tie
 
-enum-known-got : tie.Need-enum-known-got
-enum-known-got c = search needs
-
-enum-told : tie.Need-enum-told
-enum-told c = search needs
-
 returns : tie.Need-returns
 unfolding aimOf
 returns c =
     let c1 = c .before in let c2 = c1 .before in let c3 = c2 .before in let c4 = c3 .before in let c5 = c4 .before in
     rw (← c5 .plus .ensures, ← c4 .operand .ensures, ← c3 .control .ensures, c1 .enum-told .given .1, ← c .illegal .ensures)
-
-enum-known-got-2 : tie.Need-enum-known-got-2
-enum-known-got-2 c = search needs
-
-enum-known-got-3 : tie.Need-enum-known-got-3
-enum-known-got-3 c = search needs
 
 returns-2 : tie.Need-returns-2
 unfolding aimOf
@@ -40,14 +28,14 @@ aim-spec =
     (λ c κs. tt)
     (λ c κs. tt)
     (λ c κs. tt)
-    enum-known-got
-    enum-told
+    (λ c. search needs)
+    (λ c. search needs)
     (λ c κs. tt)
     returns
-    enum-known-got-2
+    (λ c. search needs)
     (λ c κs. tt)
     (λ c κs. tt)
-    enum-known-got-3
+    (λ c. search needs)
     (λ c κs. tt)
     returns-2
     returns-3)

@@ -3,12 +3,6 @@ use borrow.Author.Needs.{needs}
 use Rattle.line4control.proofs.lea.Statement.{statement}
 use Rattle.line4control.proofs.lea.Tie as tie
 
-enum-known-a : tie.Need-enum-known-a
-enum-known-a c = search needs
-
-enum-known-e : tie.Need-enum-known-e
-enum-known-e c = search needs
-
 returns : tie.Need-returns
 returns c =
     let c1 = c .before in let c2 = c1 .before in let c3 = c2 .before in let c4 = c3 .before in let c5 = c4 .before in let c6 = c5 .before in let c7 = c6 .before in
@@ -26,9 +20,9 @@ lea-spec =
     (λ c κs. tt)
     (λ c κs. tt)
     (λ c κs. tt)
-    enum-known-a
+    (λ c. search needs)
     (λ c κs. tt)
     (λ c κs. tt)
-    enum-known-e
+    (λ c. search needs)
     returns
     returns-2)

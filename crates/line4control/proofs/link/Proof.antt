@@ -3,12 +3,6 @@ use borrow.Author.Needs.{needs}
 use Rattle.line4control.proofs.link.Statement.{statement}
 use Rattle.line4control.proofs.link.Tie as tie
 
-enum-known-d : tie.Need-enum-known-d
-enum-known-d c = search needs
-
-enum-known-x : tie.Need-enum-known-x
-enum-known-x c = search needs
-
 returns : tie.Need-returns
 unfolding linkOf
 returns c =
@@ -29,8 +23,8 @@ link-spec =
     (λ c κs. tt)
     (λ c κs. tt)
     (λ c κs. tt)
-    enum-known-d
-    enum-known-x
+    (λ c. search needs)
+    (λ c. search needs)
     (λ c κs. tt)
     returns
     (λ c κs. tt)

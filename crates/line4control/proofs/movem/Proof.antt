@@ -1,14 +1,8 @@
-use borrow.Author.Tests.{lt-ltb, le-ltb, le-leb, lt-leb, eq-eqb, ne-eqb}
+use borrow.Author.Tests.{eq-eqb, ne-eqb}
 use Rattle.instructions.specs.Line4.{moveMany as moveManyOf}
 use borrow.Author.Needs.{needs}
 use Rattle.line4control.proofs.movem.Statement.{statement}
 use Rattle.line4control.proofs.movem.Tie as tie
-
-enum-known-mask : tie.Need-enum-known-mask
-enum-known-mask c = search needs
-
-enum-known-x : tie.Need-enum-known-x
-enum-known-x c = search needs
 
 returns : tie.Need-returns
 unfolding moveManyOf
@@ -27,12 +21,6 @@ unfolding moveManyOf
 returns-3 c =
     let c1 = c .before in let c2 = c1 .before in let c3 = c2 .before in let c4 = c3 .before in let c5 = c4 .before in let c6 = c5 .before in let c7 = c6 .before in let c8 = c7 .before in
     rw (← c8 .plus .ensures, ← c7 .address .ensures, ← c6 .load .ensures, c4 .mask .given .1, ne-eqb _ _ (c2 .if1 .left), ne-eqb _ _ (c1 .if2 .taken), ← c .illegal .ensures)
-
-enum-known-d : tie.Need-enum-known-d
-enum-known-d c = search needs
-
-enum-known-x-2 : tie.Need-enum-known-x-2
-enum-known-x-2 c = search needs
 
 returns-4 : tie.Need-returns-4
 unfolding moveManyOf
@@ -53,8 +41,8 @@ movem-spec =
     (λ c κs. tt)
     (λ c κs. tt)
     (λ c κs. tt)
-    enum-known-mask
-    enum-known-x
+    (λ c. search needs)
+    (λ c. search needs)
     (λ c κs. tt)
     returns
     (λ c κs. tt)
@@ -64,8 +52,8 @@ movem-spec =
     returns-3
     (λ c κs. tt)
     (λ c κs. tt)
-    enum-known-d
-    enum-known-x-2
+    (λ c. search needs)
+    (λ c. search needs)
     (λ c κs. tt)
     returns-4
     (λ c κs. tt)

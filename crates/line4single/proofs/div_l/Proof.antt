@@ -1,26 +1,14 @@
-use borrow.Author.Tests.{lt-ltb, le-ltb, le-leb, lt-leb, eq-eqb, ne-eqb}
+use borrow.Author.Tests.{eq-eqb, ne-eqb}
 use Rattle.instructions.specs.Line4.{divide as divideOf}
 use borrow.Author.Needs.{needs}
 use Rattle.line4single.proofs.div_l.Statement.{statement}
 use Rattle.line4single.proofs.div_l.Tie as tie
-
-enum-known-w : tie.Need-enum-known-w
-enum-known-w c = search needs
-
-enum-known-x : tie.Need-enum-known-x
-enum-known-x c = search needs
 
 returns : tie.Need-returns
 unfolding divideOf
 returns c =
     let c1 = c .before in let c2 = c1 .before in let c3 = c2 .before in let c4 = c3 .before in let c5 = c4 .before in
     rw (← c5 .plus .ensures, ← c4 .load .ensures, c2 .x .given .1, ← c .refused .ensures)
-
-enum-known-got : tie.Need-enum-known-got
-enum-known-got c = search needs
-
-enum-known-got-2 : tie.Need-enum-known-got-2
-enum-known-got-2 c = search needs
 
 returns-2 : tie.Need-returns-2
 unfolding divideOf
@@ -34,9 +22,6 @@ returns-3 c =
     let c1 = c .before in let c2 = c1 .before in let c3 = c2 .before in let c4 = c3 .before in let c5 = c4 .before in let c6 = c5 .before in let c7 = c6 .before in let c8 = c7 .before in let c9 = c8 .before in let c10 = c9 .before in let c11 = c10 .before in let c12 = c11 .before in
     rw (← c12 .plus .ensures, ← c11 .load .ensures, c9 .w .given .1, ← c7 .plus2 .ensures, ← c6 .source .ensures, c4 .got .given .1, eq-eqb _ _ (c1 .if1 .taken), ← c .enter-after .ensures)
 
-divided-requires : tie.Need-divided-requires
-divided-requires c κs = search needs
-
 returns-4 : tie.Need-returns-4
 unfolding divideOf
 returns-4 c =
@@ -49,19 +34,19 @@ div-l-spec =
     (tie.spec
     (λ c κs. tt)
     (λ c κs. tt)
-    enum-known-w
-    enum-known-x
+    (λ c. search needs)
+    (λ c. search needs)
     (λ c κs. tt)
     returns
     (λ c κs. tt)
     (λ c κs. tt)
-    enum-known-got
-    enum-known-got-2
+    (λ c. search needs)
+    (λ c. search needs)
     (λ c κs. tt)
     returns-2
     (λ c κs. tt)
     returns-3
     (λ c κs. tt)
-    divided-requires
+    (λ c κs. search needs)
     (λ c κs. tt)
     returns-4)

@@ -1,4 +1,4 @@
-use borrow.Author.Tests.{lt-ltb, le-ltb, le-leb, lt-leb, eq-eqb, ne-eqb}
+use borrow.Author.Tests.{eq-eqb, ne-eqb}
 use Rattle.instructions.specs.Line4.{divided as dividedOf}
 use borrow.Author.Needs.{needs}
 use Rattle.line4single.proofs.divided.Statement.{statement}

@@ -3,23 +3,11 @@ use borrow.Author.Needs.{needs}
 use Rattle.line4single.proofs.mul_l.Statement.{statement}
 use Rattle.line4single.proofs.mul_l.Tie as tie
 
-enum-known-w : tie.Need-enum-known-w
-enum-known-w c = search needs
-
-enum-known-x : tie.Need-enum-known-x
-enum-known-x c = search needs
-
 returns : tie.Need-returns
 unfolding multiplyOf
 returns c =
     let c1 = c .before in let c2 = c1 .before in let c3 = c2 .before in let c4 = c3 .before in let c5 = c4 .before in
     rw (← c5 .plus .ensures, ← c4 .load .ensures, c2 .x .given .1, ← c .refused .ensures)
-
-enum-known-got : tie.Need-enum-known-got
-enum-known-got c = search needs
-
-enum-known-got-2 : tie.Need-enum-known-got-2
-enum-known-got-2 c = search needs
 
 returns-2 : tie.Need-returns-2
 unfolding multiplyOf
@@ -39,14 +27,14 @@ mul-l-spec =
     (tie.spec
     (λ c κs. tt)
     (λ c κs. tt)
-    enum-known-w
-    enum-known-x
+    (λ c. search needs)
+    (λ c. search needs)
     (λ c κs. tt)
     returns
     (λ c κs. tt)
     (λ c κs. tt)
-    enum-known-got
-    enum-known-got-2
+    (λ c. search needs)
+    (λ c. search needs)
     (λ c κs. tt)
     returns-2
     (λ c κs. tt)

@@ -3,12 +3,9 @@ use borrow.Author.Needs.{needs}
 use Rattle.line4single.proofs.not.Statement.{statement}
 use Rattle.line4single.proofs.not.Tie as tie
 
-sub-replaced : tie.Need-sub-replaced
-sub-replaced c = search needs
-
 returns : tie.Need-returns
 unfolding complementOf
 returns c = rw (← c .before .«data» .ensures, ← c .replaced .ensures)
 
 pub not-spec : {M : Type 1} → statement M
-not-spec = tie.close (tie.spec (λ c κs. tt) sub-replaced (λ c κs. tt) returns)
+not-spec = tie.close (tie.spec (λ c κs. tt) (λ c. search needs) (λ c κs. tt) returns)

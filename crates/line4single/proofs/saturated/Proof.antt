@@ -1,4 +1,4 @@
-use borrow.Author.Tests.{lt-ltb, le-ltb, le-leb, lt-leb, eq-eqb, ne-eqb}
+use borrow.Author.Tests.{lt-ltb, le-ltb, eq-eqb, ne-eqb}
 use Rattle.instructions.specs.Line4.{saturated as saturatedOf}
 use Rattle.line4single.proofs.saturated.Statement.{statement}
 use Rattle.line4single.proofs.saturated.Tie as tie

@@ -3,15 +3,9 @@ use borrow.Author.Needs.{needs}
 use Rattle.line4single.proofs.swap.Statement.{statement}
 use Rattle.line4single.proofs.swap.Tie as tie
 
-mul-replaced : tie.Need-mul-replaced
-mul-replaced c = search needs
-
-add-replaced : tie.Need-add-replaced
-add-replaced c = search needs
-
 returns : tie.Need-returns
 unfolding swapOf
 returns c = rw (← c .before .«data» .ensures, ← c .replaced .ensures)
 
 pub swap-spec : {M : Type 1} → statement M
-swap-spec = tie.close (tie.spec (λ c κs. tt) mul-replaced add-replaced (λ c κs. tt) returns)
+swap-spec = tie.close (tie.spec (λ c κs. tt) (λ c. search needs) (λ c. search needs) (λ c κs. tt) returns)

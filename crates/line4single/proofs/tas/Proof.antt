@@ -3,12 +3,6 @@ use borrow.Author.Needs.{needs}
 use Rattle.line4single.proofs.tas.Statement.{statement}
 use Rattle.line4single.proofs.tas.Tie as tie
 
-enum-known-v : tie.Need-enum-known-v
-enum-known-v c = search needs
-
-enum-known-x : tie.Need-enum-known-x
-enum-known-x c = search needs
-
 returns : tie.Need-returns
 unfolding testAndSetOf
 returns c =
@@ -29,8 +23,8 @@ tas-spec =
     (λ c κs. tt)
     (λ c κs. tt)
     (λ c κs. tt)
-    enum-known-v
-    enum-known-x
+    (λ c. search needs)
+    (λ c. search needs)
     (λ c κs. tt)
     returns
     (λ c κs. tt)

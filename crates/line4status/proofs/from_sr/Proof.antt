@@ -1,4 +1,4 @@
-use borrow.Author.Tests.{lt-ltb, le-ltb, le-leb, lt-leb, eq-eqb, ne-eqb}
+use borrow.Author.Tests.{eq-eqb, ne-eqb}
 use Rattle.instructions.specs.Line4.{fromSr as fromSrOf}
 use Rattle.line4status.proofs.from_sr.Statement.{statement}
 use Rattle.line4status.proofs.from_sr.Tie as tie

@@ -1,14 +1,8 @@
-use borrow.Author.Tests.{lt-ltb, le-ltb, le-leb, lt-leb, eq-eqb, ne-eqb}
+use borrow.Author.Tests.{eq-eqb, ne-eqb}
 use Rattle.instructions.specs.Line4.{stldsr as stldsrOf}
 use borrow.Author.Needs.{needs}
 use Rattle.line4status.proofs.stldsr.Statement.{statement}
 use Rattle.line4status.proofs.stldsr.Tie as tie
-
-enum-known-w : tie.Need-enum-known-w
-enum-known-w c = search needs
-
-enum-known-x : tie.Need-enum-known-x
-enum-known-x c = search needs
 
 returns : tie.Need-returns
 unfolding stldsrOf
@@ -21,12 +15,6 @@ unfolding stldsrOf
 returns-2 c =
     let c1 = c .before in let c2 = c1 .before in let c3 = c2 .before in let c4 = c3 .before in let c5 = c4 .before in let c6 = c5 .before in
     rw (← c6 .plus .ensures, ← c5 .load .ensures, c3 .w .given .1, ne-eqb _ _ (c1 .if1 .taken), ← c .illegal .ensures)
-
-enum-known-v : tie.Need-enum-known-v
-enum-known-v c = search needs
-
-enum-known-x-2 : tie.Need-enum-known-x-2
-enum-known-x-2 c = search needs
 
 returns-3 : tie.Need-returns-3
 unfolding stldsrOf
@@ -46,16 +34,16 @@ stldsr-spec =
     (tie.spec
     (λ c κs. tt)
     (λ c κs. tt)
-    enum-known-w
-    enum-known-x
+    (λ c. search needs)
+    (λ c. search needs)
     (λ c κs. tt)
     returns
     (λ c κs. tt)
     returns-2
     (λ c κs. tt)
     (λ c κs. tt)
-    enum-known-v
-    enum-known-x-2
+    (λ c. search needs)
+    (λ c. search needs)
     (λ c κs. tt)
     returns-3
     (λ c κs. tt)

@@ -1,14 +1,8 @@
-use borrow.Author.Tests.{lt-ltb, le-ltb, le-leb, lt-leb, eq-eqb, ne-eqb}
+use borrow.Author.Tests.{eq-eqb, ne-eqb}
 use Rattle.instructions.specs.Line4.{toSr as toSrOf}
 use borrow.Author.Needs.{needs}
 use Rattle.line4status.proofs.to_sr.Statement.{statement}
 use Rattle.line4status.proofs.to_sr.Tie as tie
-
-enum-known-got : tie.Need-enum-known-got
-enum-known-got c = search needs
-
-enum-known-got-2 : tie.Need-enum-known-got-2
-enum-known-got-2 c = search needs
 
 returns : tie.Need-returns
 unfolding toSrOf
@@ -34,8 +28,8 @@ to-sr-spec =
     (tie.spec
     (λ c κs. tt)
     (λ c κs. tt)
-    enum-known-got
-    enum-known-got-2
+    (λ c. search needs)
+    (λ c. search needs)
     (λ c κs. tt)
     returns
     (λ c κs. tt)

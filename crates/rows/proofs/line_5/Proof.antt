@@ -6,17 +6,5 @@ use Rattle.rows.proofs.line_5.Tie as tie
 line-5-f0f8-requires : tie.Need-line-5-f0f8-requires
 line-5-f0f8-requires c κs = past 3 (c .before .pre) (c .match .rest)
 
-returns : tie.Need-returns
-returns c = taken 60 (c .before .pre) (c .match .keys1) tt
-
-returns-2 : tie.Need-returns-2
-returns-2 c = taken 61 (c .before .pre) (c .match .keys2) tt
-
-returns-3 : tie.Need-returns-3
-returns-3 c = taken 62 (c .before .pre) (c .match .keys3) tt
-
-returns-4 : tie.Need-returns-4
-returns-4 c = c .line-5-f0f8 .ensures
-
 pub line-5-spec : {M : Type 1} → statement M
-line-5-spec = tie.close (tie.spec line-5-f0f8-requires returns returns-2 returns-3 returns-4)
+line-5-spec = tie.close (tie.spec line-5-f0f8-requires (λ c. taken 60 (c .before .pre) (c .match .keys1) tt) (λ c. taken 61 (c .before .pre) (c .match .keys2) tt) (λ c. taken 62 (c .before .pre) (c .match .keys3) tt) (λ c. c .line-5-f0f8 .ensures))

@@ -4,21 +4,6 @@ use Rattle.rows.specs.RowLaws.{line-at, past-all}
 use Rattle.rows.proofs.line_of.Statement.{statement}
 use Rattle.rows.proofs.line_of.Tie as tie
 
-returns : tie.Need-returns
-returns c = line-at (c .before .args .row) 0 (omega (arith, c .if1 .taken)) (omega arith) (omega arith) (c .if1 .taken)
-
-returns-2 : tie.Need-returns-2
-returns-2 c = line-at (c .before .before .args .row) 1 (omega (arith, c .if2 .taken)) (omega arith) (c .before .if1 .left) (c .if2 .taken)
-
-returns-3 : tie.Need-returns-3
-returns-3 c = line-at (c .before .before .before .args .row) 2 (omega (arith, c .if3 .taken)) (omega arith) (c .before .if2 .left) (c .if3 .taken)
-
-returns-4 : tie.Need-returns-4
-returns-4 c = line-at (c .before .before .before .before .args .row) 3 (omega (arith, c .if4 .taken)) (omega arith) (c .before .if3 .left) (c .if4 .taken)
-
-returns-5 : tie.Need-returns-5
-returns-5 c = line-at (c .before .before .before .before .before .args .row) 4 (omega (arith, c .if5 .taken)) (omega arith) (c .before .if4 .left) (c .if5 .taken)
-
 returns-6 : tie.Need-returns-6
 returns-6 c = line-at (c .before .before .before .before .before .before .args .row) 5 (omega (arith, c .if6 .taken)) (omega arith) (c .before .if5 .left) (c .if6 .taken)
 
@@ -59,11 +44,11 @@ pub line-of-spec : {M : Type 1} → statement M
 line-of-spec =
     tie.close
     (tie.spec
-    returns
-    returns-2
-    returns-3
-    returns-4
-    returns-5
+    (λ c. line-at (c .before .args .row) 0 (omega (arith, c .if1 .taken)) (omega arith) (omega arith) (c .if1 .taken))
+    (λ c. line-at (c .before .before .args .row) 1 (omega (arith, c .if2 .taken)) (omega arith) (c .before .if1 .left) (c .if2 .taken))
+    (λ c. line-at (c .before .before .before .args .row) 2 (omega (arith, c .if3 .taken)) (omega arith) (c .before .if2 .left) (c .if3 .taken))
+    (λ c. line-at (c .before .before .before .before .args .row) 3 (omega (arith, c .if4 .taken)) (omega arith) (c .before .if3 .left) (c .if4 .taken))
+    (λ c. line-at (c .before .before .before .before .before .args .row) 4 (omega (arith, c .if5 .taken)) (omega arith) (c .before .if4 .left) (c .if5 .taken))
     returns-6
     returns-7
     returns-8

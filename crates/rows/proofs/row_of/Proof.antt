@@ -58,53 +58,5 @@ line-f-requires c κs =
     let h = rest 15 (w / 0x1000) (c .match .rest) in
     start 15 w (omega arith) (omega arith)
 
-returns : tie.Need-returns
-returns c = c .line-0 .ensures ∙ rowOf-mod (c .before .before .args .word)
-
-returns-2 : tie.Need-returns-2
-returns-2 c = c .line-1 .ensures ∙ rowOf-mod (c .before .before .args .word)
-
-returns-3 : tie.Need-returns-3
-returns-3 c = c .line-2 .ensures ∙ rowOf-mod (c .before .before .args .word)
-
-returns-4 : tie.Need-returns-4
-returns-4 c = c .line-3 .ensures ∙ rowOf-mod (c .before .before .args .word)
-
-returns-5 : tie.Need-returns-5
-returns-5 c = c .line-4 .ensures ∙ rowOf-mod (c .before .before .args .word)
-
-returns-6 : tie.Need-returns-6
-returns-6 c = c .line-5 .ensures ∙ rowOf-mod (c .before .before .args .word)
-
-returns-7 : tie.Need-returns-7
-returns-7 c = c .line-6 .ensures ∙ rowOf-mod (c .before .before .args .word)
-
-returns-8 : tie.Need-returns-8
-returns-8 c = c .line-7 .ensures ∙ rowOf-mod (c .before .before .args .word)
-
-returns-9 : tie.Need-returns-9
-returns-9 c = c .line-8 .ensures ∙ rowOf-mod (c .before .before .args .word)
-
-returns-10 : tie.Need-returns-10
-returns-10 c = c .line-9 .ensures ∙ rowOf-mod (c .before .before .args .word)
-
-returns-11 : tie.Need-returns-11
-returns-11 c = c .line-a .ensures ∙ rowOf-mod (c .before .before .args .word)
-
-returns-12 : tie.Need-returns-12
-returns-12 c = c .line-b .ensures ∙ rowOf-mod (c .before .before .args .word)
-
-returns-13 : tie.Need-returns-13
-returns-13 c = c .line-c .ensures ∙ rowOf-mod (c .before .before .args .word)
-
-returns-14 : tie.Need-returns-14
-returns-14 c = c .line-d .ensures ∙ rowOf-mod (c .before .before .args .word)
-
-returns-15 : tie.Need-returns-15
-returns-15 c = c .line-e .ensures ∙ rowOf-mod (c .before .before .args .word)
-
-returns-16 : tie.Need-returns-16
-returns-16 c = c .line-f .ensures ∙ rowOf-mod (c .before .before .args .word)
-
 pub row-of-spec : {M : Type 1} → statement M
-row-of-spec = tie.close (tie.spec line-0-requires line-1-requires line-2-requires line-3-requires line-4-requires line-5-requires line-6-requires line-7-requires line-8-requires line-9-requires line-a-requires line-b-requires line-c-requires line-d-requires line-e-requires line-f-requires returns returns-2 returns-3 returns-4 returns-5 returns-6 returns-7 returns-8 returns-9 returns-10 returns-11 returns-12 returns-13 returns-14 returns-15 returns-16)
+row-of-spec = tie.close (tie.spec line-0-requires line-1-requires line-2-requires line-3-requires line-4-requires line-5-requires line-6-requires line-7-requires line-8-requires line-9-requires line-a-requires line-b-requires line-c-requires line-d-requires line-e-requires line-f-requires (λ c. c .line-0 .ensures ∙ rowOf-mod (c .before .before .args .word)) (λ c. c .line-1 .ensures ∙ rowOf-mod (c .before .before .args .word)) (λ c. c .line-2 .ensures ∙ rowOf-mod (c .before .before .args .word)) (λ c. c .line-3 .ensures ∙ rowOf-mod (c .before .before .args .word)) (λ c. c .line-4 .ensures ∙ rowOf-mod (c .before .before .args .word)) (λ c. c .line-5 .ensures ∙ rowOf-mod (c .before .before .args .word)) (λ c. c .line-6 .ensures ∙ rowOf-mod (c .before .before .args .word)) (λ c. c .line-7 .ensures ∙ rowOf-mod (c .before .before .args .word)) (λ c. c .line-8 .ensures ∙ rowOf-mod (c .before .before .args .word)) (λ c. c .line-9 .ensures ∙ rowOf-mod (c .before .before .args .word)) (λ c. c .line-a .ensures ∙ rowOf-mod (c .before .before .args .word)) (λ c. c .line-b .ensures ∙ rowOf-mod (c .before .before .args .word)) (λ c. c .line-c .ensures ∙ rowOf-mod (c .before .before .args .word)) (λ c. c .line-d .ensures ∙ rowOf-mod (c .before .before .args .word)) (λ c. c .line-e .ensures ∙ rowOf-mod (c .before .before .args .word)) (λ c. c .line-f .ensures ∙ rowOf-mod (c .before .before .args .word)))

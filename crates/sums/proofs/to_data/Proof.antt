@@ -3,12 +3,6 @@ use borrow.Author.Needs.{needs}
 use Rattle.sums.proofs.to_data.Statement.{statement}
 use Rattle.sums.proofs.to_data.Tie as tie
 
-enum-known-got : tie.Need-enum-known-got
-enum-known-got c = search needs
-
-enum-known-got-2 : tie.Need-enum-known-got-2
-enum-known-got-2 c = search needs
-
 returns : tie.Need-returns
 unfolding toDataOf
 returns c =
@@ -28,8 +22,8 @@ to-data-spec =
     (λ c κs. tt)
     (λ c κs. tt)
     (λ c κs. tt)
-    enum-known-got
-    enum-known-got-2
+    (λ c. search needs)
+    (λ c. search needs)
     (λ c κs. tt)
     returns
     (λ c κs. tt)

@@ -3,12 +3,6 @@ use borrow.Author.Needs.{needs}
 use Rattle.sums.proofs.to_place.Statement.{statement}
 use Rattle.sums.proofs.to_place.Tie as tie
 
-enum-known-v : tie.Need-enum-known-v
-enum-known-v c = search needs
-
-enum-known-x : tie.Need-enum-known-x
-enum-known-x c = search needs
-
 returns : tie.Need-returns
 unfolding toPlaceOf
 returns c =
@@ -29,8 +23,8 @@ to-place-spec =
     (λ c κs. tt)
     (λ c κs. tt)
     (λ c κs. tt)
-    enum-known-v
-    enum-known-x
+    (λ c. search needs)
+    (λ c. search needs)
     (λ c κs. tt)
     returns
     (λ c κs. tt)

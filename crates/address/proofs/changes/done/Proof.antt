@@ -2,10 +2,7 @@ use Rattle.manual.specs.Change.{done as doneOf}
 use borrow.Author.Needs.{needs}
 use Rattle.address.proofs.changes.done.Statement.{statement}
 use Rattle.address.proofs.changes.done.Tie as tie
-use Rattle.address.proofs.changes.done.Reads as reads
-use Rattle.address.proofs.changes.done.Lts as lts
 
--- src/changes.rt:25:1
 returns : tie.Need-returns
 unfolding doneOf
 returns c = search needs

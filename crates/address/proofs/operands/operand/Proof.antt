@@ -2,86 +2,43 @@ use Rattle.manual.specs.Address.{modeSeven}
 use Rattle.manual.specs.declared.Operand.the-variants.{Zero}
 use Rattle.word.specs.TestLaws.{past}
 use lib.ListN.{List·getD-eq-default}
-use mathlib.Core.Path.{_≡_, refl, sym, ap, _∙_}
-use Prim.Native.Nat.{ℕ, _+_, _-_, _*_, _/_, _%_, _^_, _≤_, _<_}
+use mathlib.Core.Path.{_≡_, sym}
+use Prim.Native.Nat.{_%_, _≤_}
 use native.Mathlib.Omega.{arith}
 use Rattle.manual.specs.Address.{operand as operandOf}
 use Rattle.address.proofs.operands.operand.Statement.{statement}
 use Rattle.address.proofs.operands.operand.Tie as tie
-use Rattle.address.proofs.operands.operand.Reads as reads
-use Rattle.address.proofs.operands.operand.Lts as lts
 
--- src/address.rt:22:1
-returns : tie.Need-returns
-unfolding operandOf
-returns c = rw (c .match .keys1)
-
--- src/address.rt:22:1
-returns-2 : tie.Need-returns-2
-unfolding operandOf
-returns-2 c = rw (c .match .keys2)
-
--- src/address.rt:22:1
-returns-3 : tie.Need-returns-3
-unfolding operandOf
-returns-3 c = rw (c .match .keys3)
-
--- src/address.rt:22:1
-returns-4 : tie.Need-returns-4
-unfolding operandOf
-returns-4 c = rw (c .match .keys4)
-
--- src/address.rt:22:1
-returns-5 : tie.Need-returns-5
-unfolding operandOf
-returns-5 c = rw (c .match .keys5)
-
--- src/address.rt:22:1
-returns-6 : tie.Need-returns-6
-unfolding operandOf
-returns-6 c = rw (c .match .keys6)
-
--- src/address.rt:22:1
-returns-7 : tie.Need-returns-7
-unfolding operandOf
-returns-7 c = rw (c .match .keys7)
-
--- src/address.rt:22:1
 returns-8 : tie.Need-returns-8
 unfolding operandOf
 returns-8 c = let e : c .before .before .args .mode % 8 ≡ 7 = omega (arith, past 7 (c .before .before .args .mode % 8) (c .before .match .rest)) in rw (e, c .match2 .keys1)
 
 -- rw (? c .before .match .rest, c .match2 .keys1) (cc)
 
--- src/address.rt:22:1
 returns-9 : tie.Need-returns-9
 unfolding operandOf
 returns-9 c = let e : c .before .before .args .mode % 8 ≡ 7 = omega (arith, past 7 (c .before .before .args .mode % 8) (c .before .match .rest)) in rw (e, c .match2 .keys2)
 
 -- rw (? c .before .match .rest, c .match2 .keys2) (cc)
 
--- src/address.rt:22:1
 returns-10 : tie.Need-returns-10
 unfolding operandOf
 returns-10 c = let e : c .before .before .args .mode % 8 ≡ 7 = omega (arith, past 7 (c .before .before .args .mode % 8) (c .before .match .rest)) in rw (e, c .match2 .keys3)
 
 -- rw (? c .before .match .rest, c .match2 .keys3) (cc)
 
--- src/address.rt:22:1
 returns-11 : tie.Need-returns-11
 unfolding operandOf
 returns-11 c = let e : c .before .before .args .mode % 8 ≡ 7 = omega (arith, past 7 (c .before .before .args .mode % 8) (c .before .match .rest)) in rw (e, c .match2 .keys4)
 
 -- rw (? c .before .match .rest, c .match2 .keys4) (cc)
 
--- src/address.rt:22:1
 returns-12 : tie.Need-returns-12
 unfolding operandOf
 returns-12 c = let e : c .before .before .args .mode % 8 ≡ 7 = omega (arith, past 7 (c .before .before .args .mode % 8) (c .before .match .rest)) in rw (e, c .match2 .keys5)
 
 -- rw (? c .before .match .rest, c .match2 .keys5) (cc)
 
--- src/address.rt:22:1
 returns-13 : tie.Need-returns-13
 unfolding operandOf
 returns-13 c = let e : c .before .before .args .mode % 8 ≡ 7 = omega (arith, past 7 (c .before .before .args .mode % 8) (c .before .match .rest)) in let h : 5 ≤ c .before .before .args .r % 8 = past 5 (c .before .before .args .r % 8) (c .match2 .rest) in rw e (sym (List·getD-eq-default modeSeven Zero h))
@@ -89,16 +46,17 @@ returns-13 c = let e : c .before .before .args .mode % 8 ≡ 7 = omega (arith, p
 -- rw (? c .before .match .rest, ? c .match2 .rest) (cc)
 
 pub operand-spec : {M : Type 1} → statement M
+unfolding operandOf
 operand-spec =
     tie.close
     (tie.spec
-    returns
-    returns-2
-    returns-3
-    returns-4
-    returns-5
-    returns-6
-    returns-7
+    (λ c. rw (c .match .keys1))
+    (λ c. rw (c .match .keys2))
+    (λ c. rw (c .match .keys3))
+    (λ c. rw (c .match .keys4))
+    (λ c. rw (c .match .keys5))
+    (λ c. rw (c .match .keys6))
+    (λ c. rw (c .match .keys7))
     returns-8
     returns-9
     returns-10

@@ -1,4 +1,4 @@
-use borrow.Author.Tests.{lt-ltb, le-ltb, le-leb, lt-leb, eq-eqb, ne-eqb}
+use borrow.Author.Tests.{eq-eqb, ne-eqb}
 use Rattle.instructions.specs.Line5.{quick as quickOf}
 use Rattle.lines5to9.proofs.line5.quick.Statement.{statement}
 use Rattle.lines5to9.proofs.line5.quick.Tie as tie

@@ -1,4 +1,4 @@
-use borrow.Author.Tests.{lt-ltb, le-ltb, le-leb, lt-leb, eq-eqb, ne-eqb}
+use borrow.Author.Tests.{eq-eqb, ne-eqb}
 use Rattle.instructions.specs.Line5.{quickNumber as quickNumberOf}
 use Rattle.lines5to9.proofs.line5.quick_number.Statement.{statement}
 use Rattle.lines5to9.proofs.line5.quick_number.Tie as tie

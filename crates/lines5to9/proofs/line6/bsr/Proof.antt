@@ -3,12 +3,6 @@ use borrow.Author.Needs.{needs}
 use Rattle.lines5to9.proofs.line6.bsr.Statement.{statement}
 use Rattle.lines5to9.proofs.line6.bsr.Tie as tie
 
-enum-known-d : tie.Need-enum-known-d
-enum-known-d c = search needs
-
-enum-known-x : tie.Need-enum-known-x
-enum-known-x c = search needs
-
 returns : tie.Need-returns
 unfolding bsrOf
 returns c =
@@ -27,8 +21,8 @@ bsr-spec =
     (tie.spec
     (λ c κs. tt)
     (λ c κs. tt)
-    enum-known-d
-    enum-known-x
+    (λ c. search needs)
+    (λ c. search needs)
     (λ c κs. tt)
     returns
     (λ c κs. tt)

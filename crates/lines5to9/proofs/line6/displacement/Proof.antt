@@ -1,14 +1,8 @@
-use borrow.Author.Tests.{lt-ltb, le-ltb, le-leb, lt-leb, eq-eqb, ne-eqb}
+use borrow.Author.Tests.{eq-eqb, ne-eqb}
 use Rattle.instructions.specs.Line6.{displacement as displacementOf}
 use borrow.Author.Needs.{needs}
 use Rattle.lines5to9.proofs.line6.displacement.Statement.{statement}
 use Rattle.lines5to9.proofs.line6.displacement.Tie as tie
-
-enum-known-v : tie.Need-enum-known-v
-enum-known-v c = search needs
-
-enum-known-x : tie.Need-enum-known-x
-enum-known-x c = search needs
 
 returns : tie.Need-returns
 unfolding displacementOf
@@ -35,9 +29,9 @@ displacement-spec =
     tie.close
     (tie.spec
     (λ c κs. tt)
-    enum-known-v
+    (λ c. search needs)
     (λ c κs. tt)
-    enum-known-x
+    (λ c. search needs)
     (λ c κs. tt)
     (λ c κs. tt)
     returns

@@ -1,4 +1,4 @@
-use borrow.Author.Tests.{lt-ltb, le-ltb, le-leb, lt-leb, eq-eqb, ne-eqb}
+use borrow.Author.Tests.{eq-eqb, ne-eqb}
 use Rattle.instructions.specs.Line6.{displacementBytes as displacementBytesOf}
 use Rattle.lines5to9.proofs.line6.displacement_bytes.Statement.{statement}
 use Rattle.lines5to9.proofs.line6.displacement_bytes.Tie as tie

@@ -1,4 +1,4 @@
-use borrow.Author.Tests.{lt-ltb, le-ltb, le-leb, lt-leb, eq-eqb, ne-eqb}
+use borrow.Author.Tests.{lt-ltb, le-ltb}
 use Rattle.instructions.specs.Rows.{placeIn as placeInOf}
 use Rattle.lines5to9.proofs.line9d.place_in.Statement.{statement}
 use Rattle.lines5to9.proofs.line9d.place_in.Tie as tie

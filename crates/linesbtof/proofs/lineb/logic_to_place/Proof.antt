@@ -3,12 +3,6 @@ use borrow.Author.Needs.{needs}
 use Rattle.linesbtof.proofs.lineb.logic_to_place.Statement.{statement}
 use Rattle.linesbtof.proofs.lineb.logic_to_place.Tie as tie
 
-enum-known-v : tie.Need-enum-known-v
-enum-known-v c = search needs
-
-enum-known-x : tie.Need-enum-known-x
-enum-known-x c = search needs
-
 returns : tie.Need-returns
 unfolding logicToPlaceOf
 returns c =
@@ -30,8 +24,8 @@ logic-to-place-spec =
     (λ c κs. tt)
     (λ c κs. tt)
     (λ c κs. tt)
-    enum-known-v
-    enum-known-x
+    (λ c. search needs)
+    (λ c. search needs)
     (λ c κs. tt)
     returns
     (λ c κs. tt)

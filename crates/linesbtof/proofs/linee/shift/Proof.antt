@@ -6,9 +6,6 @@ use Rattle.linesbtof.proofs.linee.shift.Tie as tie
 shifted-requires : tie.Need-shifted-requires
 shifted-requires c κs = c .before .shift-count .ensures .1
 
-shift-codes-requires : tie.Need-shift-codes-requires
-shift-codes-requires c κs = search needs
-
 returns : tie.Need-returns
 unfolding shiftOf
 returns c =
@@ -23,7 +20,7 @@ shift-spec =
     (λ c κs. tt)
     shifted-requires
     (λ c κs. tt)
-    shift-codes-requires
+    (λ c κs. search needs)
     (λ c κs. tt)
     (λ c κs. tt)
     (λ c κs. tt)

@@ -1,5 +1,5 @@
 use Rattle.linesbtof.proofs.Counts.{quick-below}
-use borrow.Author.Tests.{lt-ltb, le-ltb, le-leb, lt-leb, eq-eqb, ne-eqb}
+use borrow.Author.Tests.{eq-eqb, ne-eqb}
 use Rattle.instructions.specs.LineE.{shiftCount as shiftCountOf}
 use borrow.Author.Needs.{needs}
 use Rattle.linesbtof.proofs.linee.shift_count.Statement.{statement}

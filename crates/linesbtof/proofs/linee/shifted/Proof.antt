@@ -5,15 +5,6 @@ use borrow.Author.Needs.{needs}
 use Rattle.linesbtof.proofs.linee.shifted.Statement.{statement}
 use Rattle.linesbtof.proofs.linee.shifted.Tie as tie
 
-shifted-left-requires : tie.Need-shifted-left-requires
-shifted-left-requires c κs = search needs
-
-signed-shifted-right-requires : tie.Need-signed-shifted-right-requires
-signed-shifted-right-requires c κs = search needs
-
-shifted-right-requires : tie.Need-shifted-right-requires
-shifted-right-requires c κs = search needs
-
 returns : tie.Need-returns
 unfolding shiftedOf
 returns c =
@@ -36,9 +27,9 @@ pub shifted-spec : {M : Type 1} → statement M
 shifted-spec =
     tie.close
     (tie.spec
-    shifted-left-requires
-    signed-shifted-right-requires
-    shifted-right-requires
+    (λ c κs. search needs)
+    (λ c κs. search needs)
+    (λ c κs. search needs)
     returns
     returns-2
     returns-3)

@@ -1,4 +1,4 @@
-use borrow.Author.Tests.{lt-ltb, le-ltb, le-leb, lt-leb, eq-eqb, ne-eqb}
+use borrow.Author.Tests.{eq-eqb, ne-eqb}
 use Rattle.instructions.specs.LineF.{cacheLine as cacheLineOf}
 use Rattle.linesbtof.proofs.linef.cache_line.Statement.{statement}
 use Rattle.linesbtof.proofs.linef.cache_line.Tie as tie

@@ -3,21 +3,6 @@ use borrow.Author.Needs.{needs}
 use Rattle.linesbtof.proofs.linef.wddata.Statement.{statement}
 use Rattle.linesbtof.proofs.linef.wddata.Tie as tie
 
-enum-told : tie.Need-enum-told
-enum-told c = search needs
-
-enum-told-2 : tie.Need-enum-told-2
-enum-told-2 c = search needs
-
-enum-told-3 : tie.Need-enum-told-3
-enum-told-3 c = search needs
-
-enum-told-4 : tie.Need-enum-told-4
-enum-told-4 c = search needs
-
-enum-known-place : tie.Need-enum-known-place
-enum-known-place c = search needs
-
 returns : tie.Need-returns
 unfolding writeDebugDataOf
 returns c =
@@ -61,15 +46,15 @@ wddata-spec =
     (λ c κs. tt)
     (λ c κs. tt)
     (λ c κs. tt)
-    enum-told
+    (λ c. search needs)
     (λ c κs. tt)
-    enum-told-2
+    (λ c. search needs)
     (λ c κs. tt)
-    enum-told-3
+    (λ c. search needs)
     (λ c κs. tt)
-    enum-told-4
+    (λ c. search needs)
     (λ c κs. tt)
-    enum-known-place
+    (λ c. search needs)
     (λ c κs. tt)
     returns
     returns-2

@@ -3,23 +3,11 @@ use borrow.Author.Needs.{needs}
 use Rattle.linesbtof.proofs.linef.wdebug.Statement.{statement}
 use Rattle.linesbtof.proofs.linef.wdebug.Tie as tie
 
-enum-known-got : tie.Need-enum-known-got
-enum-known-got c = search needs
-
-enum-told : tie.Need-enum-told
-enum-told c = search needs
-
 returns : tie.Need-returns
 unfolding writeDebugOf
 returns c =
     let c1 = c .before in let c2 = c1 .before in let c3 = c2 .before in let c4 = c3 .before in let c5 = c4 .before in let c6 = c5 .before in
     rw (← c6 .operand .ensures, ← c5 .plus .ensures, ← c4 .control .ensures, c2 .enum-told .given .1, ← c1 .plus2 .ensures, ← c .jump .ensures)
-
-enum-told-2 : tie.Need-enum-told-2
-enum-told-2 c = search needs
-
-enum-known-got-2 : tie.Need-enum-known-got-2
-enum-known-got-2 c = search needs
 
 returns-2 : tie.Need-returns-2
 unfolding writeDebugOf
@@ -40,17 +28,17 @@ wdebug-spec =
     (λ c κs. tt)
     (λ c κs. tt)
     (λ c κs. tt)
-    enum-known-got
-    enum-told
+    (λ c. search needs)
+    (λ c. search needs)
     (λ c κs. tt)
     (λ c κs. tt)
     returns
-    enum-told-2
+    (λ c. search needs)
     (λ c κs. tt)
     (λ c κs. tt)
     (λ c κs. tt)
     (λ c κs. tt)
-    enum-known-got-2
+    (λ c. search needs)
     (λ c κs. tt)
     returns-2
     returns-3)
