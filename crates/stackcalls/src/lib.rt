@@ -1,4 +1,4 @@
-// The calls that push a long on the stack and pop it.
+// The calls that push a long on the stack and pop it, refusals first.
 use exceptions::entry::refusal;
 use exceptions::status::admitted;
 use manual::Cpu;

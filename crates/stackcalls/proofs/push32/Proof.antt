@@ -1,9 +1,9 @@
--- `exceptioncalls::stack::push32` meets its contract. Assumes nothing.
+-- `stackcalls::push32` meets its contract. Assumes nothing.
 use borrow.Author.Tests.{not-true, not-false, lt-ltb, le-ltb}
 use Rattle.manual.specs.Exceptions.{push32 as push32Of}
 use borrow.Author.Needs.{needs}
-use Rattle.exceptioncalls.proofs.stack.push32.Statement.{statement}
-use Rattle.exceptioncalls.proofs.stack.push32.Tie as tie
+use Rattle.stackcalls.proofs.push32.Statement.{statement}
+use Rattle.stackcalls.proofs.push32.Tie as tie
 
 returns : tie.Need-returns
 unfolding push32Of
