@@ -1,4 +1,2 @@
-// The calls on exceptions, the stack and the status register, refusals first.
+// The calls on exceptions, refusals first.
 pub mod entry;
-pub mod stack;
-pub mod status;

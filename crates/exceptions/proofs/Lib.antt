@@ -1,1 +1,2 @@
+pub mod FrameLaws
 pub mod StatusLaws

@@ -39,7 +39,7 @@ fn frame_long(sp: u32, vector: u8, sr: u16) -> u32
     (4 + sp % 4) * 0x1000_0000 + (vector as u32) * 0x4_0000 + sr as u32
 }
 
-fn store_frame(mem: &mut [u8], high: usize, low: usize, pc: u32, w: u32)
+fn store_frame(mem: &mut [u8], high: u32, low: u32, pc: u32, w: u32)
     requires { ⌜ (high + 4 ≤ length (now mem)) × (low + 4 ≤ length (now mem)) ⌝ }
     ensures { λ _. ⌜ now (mem .exit) ≡ stored (stored (now (mem .entry)) high Long pc) low Long w ⌝ }
 {
@@ -73,7 +73,7 @@ pub fn entered(given: Cpu, cpu: Cpu, level: Level, vector: u8, pc: u32, mem: &mu
     if mem.len() < table as usize + 4 {
         return refusal(given, Reply::NotInside);
     }
-    store_frame(mem, high as usize, low as usize, pc, w);
+    store_frame(mem, high, low, pc, w);
     let handler = long_at(mem, table as usize);
     let next = handler_state(then, low, handler);
     Stepped {

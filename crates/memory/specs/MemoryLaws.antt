@@ -87,6 +87,11 @@ pub value-four : (m : List ℕ) (a : ℕ) → valueAt m a 4 ≡ valueAt m a 2 * 
 unfolding valueAt
 value-four m a = simp (add-zero, add-assoc) (omega arith)
 
+pub value-bytes : (m : List ℕ) (a : ℕ)
+    → valueAt m a 4 ≡ getD m (a + 0) 0 * 0x100_0000 + getD m (a + 1) 0 * 0x1_0000 + getD m (a + 2) 0 * 0x100 + getD m (a + 3) 0
+unfolding valueAt
+value-bytes m a = omega arith
+
 pub store-one : (m : List ℕ) (a v : ℕ) → storeAt m a 1 v ≡ set m a (v % 256)
 unfolding storeAt
 store-one m a v = rw add-zero

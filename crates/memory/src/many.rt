@@ -1,9 +1,8 @@
 // The registers of a mask, D0 lowest, as longs one after the other: MOVEM.
-use crate::long_at;
-use crate::store;
-use manual::Size;
+use crate::inside_long;
+use crate::store_long;
 ghost use mathlib.Core.Path.{_≡_};
-ghost use mathlib.Core.Bool.{true};
+ghost use mathlib.Core.Bool.{true, cond};
 ghost use Prim.Native.Nat.{_+_, _*_, _/_, _%_, _^_, _≤_, _<_};
 ghost use Rattle.manual.specs.Word.{plus};
 ghost use Rattle.manual.specs.Memory.{manyInside, storedMany, loadedMany};
@@ -14,7 +13,7 @@ fn next(at: u32) -> u32
     std::num::wrapping_add_u32(at, 4)
 }
 
-pub fn many_inside(mem: &[u8], given: u32, start: u32) -> bool
+fn many_inside(mem: &[u8], given: u32, start: u32) -> bool
     ensures { λ r. ⌜ r ≡ manyInside 16 (now (mem .entry)) given start ⌝ }
 {
     let mut mask = given;
@@ -36,7 +35,7 @@ pub fn many_inside(mem: &[u8], given: u32, start: u32) -> bool
     true
 }
 
-pub fn store_many(mem: &mut [u8], g: &[u32; 16], given: u32, start: u32)
+fn store_all(mem: &mut [u8], g: &[u32; 16], given: u32, start: u32)
     requires { ⌜ manyInside 16 (now mem) given start ≡ true ⌝ }
     ensures { λ _. ⌜ now (mem .exit) ≡ storedMany 16 (now (g .entry)) 0 given start (now (mem .entry)) ⌝ }
 {
@@ -47,7 +46,7 @@ pub fn store_many(mem: &mut [u8], g: &[u32; 16], given: u32, start: u32)
         let done = n + 1;
         if mask % 2 == 1 {
             let i = at as usize;
-            store(mem, i, Size::Long, g[n]);
+            store_long(mem, i, g[n]);
             at = next(at);
             mask = mask / 2;
             n = done;
@@ -58,11 +57,10 @@ pub fn store_many(mem: &mut [u8], g: &[u32; 16], given: u32, start: u32)
     }
 }
 
-pub fn load_many(mem: &[u8], held: [u32; 16], given: u32, start: u32) -> [u32; 16]
+fn load_all(mem: &[u8], g: &mut [u32; 16], given: u32, start: u32)
     requires { ⌜ manyInside 16 (now mem) given start ≡ true ⌝ }
-    ensures { λ s. ⌜ s ≡ loadedMany 16 (now (mem .entry)) 0 given start held ⌝ }
+    ensures { λ _. ⌜ now (g .exit) ≡ loadedMany 16 (now (mem .entry)) 0 given start (now (g .entry)) ⌝ }
 {
-    let mut g = held;
     let mut mask = given;
     let mut at = start;
     let mut n: usize = 0;
@@ -70,7 +68,7 @@ pub fn load_many(mem: &[u8], held: [u32; 16], given: u32, start: u32) -> [u32; 1
         let done = n + 1;
         if mask % 2 == 1 {
             let i = at as usize;
-            g[n] = long_at(mem, i);
+            g[n] = inside_long(mem, i);
             at = next(at);
             mask = mask / 2;
             n = done;
@@ -79,5 +77,25 @@ pub fn load_many(mem: &[u8], held: [u32; 16], given: u32, start: u32) -> [u32; 1
         mask = mask / 2;
         n = done;
     }
-    g
+}
+
+// All of the registers, or none where one would be outside.
+pub fn store_many(mem: &mut [u8], g: &[u32; 16], mask: u32, a: u32) -> bool
+    ensures { λ r. ⌜ (r ≡ manyInside 16 (now (mem .entry)) mask a) × (now (mem .exit) ≡ cond r (storedMany 16 (now (g .entry)) 0 mask a (now (mem .entry))) (now (mem .entry))) ⌝ }
+{
+    if many_inside(&*mem, mask, a) {
+        store_all(mem, g, mask, a);
+        return true;
+    }
+    false
+}
+
+pub fn load_many(mem: &[u8], g: &mut [u32; 16], mask: u32, a: u32) -> bool
+    ensures { λ r. ⌜ (r ≡ manyInside 16 (now (mem .entry)) mask a) × (now (g .exit) ≡ cond r (loadedMany 16 (now (mem .entry)) 0 mask a (now (g .entry))) (now (g .entry))) ⌝ }
+{
+    if many_inside(mem, mask, a) {
+        load_all(mem, g, mask, a);
+        return true;
+    }
+    false
 }

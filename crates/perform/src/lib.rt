@@ -18,7 +18,6 @@ use manual::Reply;
 use manual::Size;
 use manual::Stepped;
 use memory::many::load_many;
-use memory::many::many_inside;
 use memory::many::store_many;
 use memory::store;
 use word::registers::address;
@@ -28,7 +27,6 @@ use word::registers::with_emac;
 use word::registers::with_other;
 use word::registers::with_registers;
 use word::registers::with_stopped;
-use word::word::bytes;
 use word::word::minus;
 ghost use mathlib.Core.Path.{_≡_};
 ghost use mathlib.Core.Bool.{true};
@@ -54,9 +52,7 @@ fn push_status(given: Cpu, cpu: Cpu, v: u32, mem: &mut [u8]) -> Stepped
 {
     let g = cpu.r;
     let sp = minus(address(&g, 7), 4);
-    let at = sp as usize;
-    if at + 4 <= mem.len() {
-        store(mem, at, Size::Long, cpu.sr as u32);
+    if store(mem, sp, Size::Long, cpu.sr as u32) {
         let pushed = with_address(cpu, 7, sp);
         quiet(with_status(pushed, v))
     } else {
@@ -74,27 +70,23 @@ pub fn perform(given: Cpu, change: Change, mem: &mut [u8]) -> Stepped
     match action {
         Action::Nothing => quiet(cpu),
         Action::Store(a, z, v) => {
-            let at = a as usize;
-            if at + bytes(z) as usize <= mem.len() {
-                store(mem, at, z, v);
+            if store(mem, a, z, v) {
                 quiet(cpu)
             } else {
                 refusal(given, Reply::NotInside)
             }
         }
         Action::StoreMany(mask, a) => {
-            if many_inside(&*mem, mask, a) {
-                let g = cpu.r;
-                store_many(mem, &g, mask, a);
+            let g = cpu.r;
+            if store_many(mem, &g, mask, a) {
                 quiet(cpu)
             } else {
                 refusal(given, Reply::NotInside)
             }
         }
         Action::LoadMany(mask, a) => {
-            if many_inside(&*mem, mask, a) {
-                let held = cpu.r;
-                let g = load_many(&*mem, held, mask, a);
+            let mut g = cpu.r;
+            if load_many(&*mem, &mut g, mask, a) {
                 quiet(with_registers(cpu, g))
             } else {
                 refusal(given, Reply::NotInside)

@@ -16,7 +16,7 @@ returns-2 c = rw (c .before .before .enum-told2 .given .1, le-leb _ _ (c .before
 
 returns-3 : tie.Need-returns-3
 unfolding loadOf
-returns-3 c = rw (c .before .before .enum-told3 .given .1, le-leb _ _ (c .before .if3 .taken), c .long-at .ensures)
+returns-3 c = rw (c .before .before .enum-told3 .given .1, le-leb _ _ (c .before .if3 .taken), c .inside-long .ensures)
 
 returns-4 : tie.Need-returns-4
 unfolding loadOf

@@ -1,41 +1,30 @@
 -- `memory::store` meets its contract. Assumes nothing.
-use native.Mathlib.Omega.{arith}
+use mathlib.Core.Path.{refl}
 use borrow.Author.Needs.{needs}
-use Rattle.memory.specs.MemoryLaws.{store-one, store-four}
+use borrow.Author.Tests.{le-leb, lt-leb}
+use Rattle.memory.specs.MemoryLaws.{store-one}
 use Rattle.memory.proofs.store.Statement.{statement}
 use Rattle.memory.proofs.store.Tie as tie
 
-slice-write-mem : tie.Need-slice-write-mem
-slice-write-mem c = omega (arith, rw (c .enum-told .given .1) at (c .before .before .before .pre))
-
-store-word-requires : tie.Need-store-word-requires
-store-word-requires c κs = omega (arith, rw (c .before .enum-told2 .given .1) at (c .before .before .before .before .pre))
-
-store-word-requires-2 : tie.Need-store-word-requires-2
-store-word-requires-2 c κs = omega (arith, rw (c .before .enum-told3 .given .1) at (c .before .before .before .before .pre))
-
-store-word-requires-3 : tie.Need-store-word-requires-3
-store-word-requires-3 c κs =
-    omega (
-      arith,
-      rw (c .before .before .before .before .before .enum-told3 .given .1) at (c .before .before .before .before .before .before .before .before .pre),
-      c .before .before .before .store-word2 .kept .0,
-    )
-
 returns : tie.Need-returns
-returns c = rw (c .enum-told .given .1, store-one)
+returns c = rw (c .before .enum-told .given .1, lt-leb _ _ (c .if1 .taken)) (refl, refl)
 
 returns-2 : tie.Need-returns-2
-returns-2 c = rw (c .before .before .before .before .enum-told2 .given .1, ← c .before .before .store-word .ensures)
+returns-2 c = rw (c .before .enum-told2 .given .1, lt-leb _ _ (c .if2 .taken)) (refl, refl)
 
 returns-3 : tie.Need-returns-3
-returns-3 c =
-    rw (
-      c .before .before .before .before .before .before .before .before .enum-told3 .given .1,
-      store-four,
-      ← c .before .before .before .before .before .before .store-word2 .ensures,
-      ← c .before .before .store-word3 .ensures,
-    )
+returns-3 c = rw (c .before .enum-told3 .given .1, lt-leb _ _ (c .if3 .taken)) (refl, refl)
+
+returns-4 : tie.Need-returns-4
+returns-4 c = rw (c .before .enum-told .given .1, le-leb _ _ (c .if1 .left), store-one) (refl, refl)
+
+returns-5 : tie.Need-returns-5
+returns-5 c =
+    rw (c .before .before .before .before .before .enum-told2 .given .1, le-leb _ _ (c .before .before .before .before .if2 .left)) (refl, c .before .before .store-word .ensures)
+
+returns-6 : tie.Need-returns-6
+returns-6 c =
+    rw (c .before .before .before .before .before .enum-told3 .given .1, le-leb _ _ (c .before .before .before .before .if3 .left)) (refl, c .before .before .store-long .ensures)
 
 pub store-spec : {M : Type 1} → statement M
 store-spec =
@@ -43,16 +32,20 @@ store-spec =
     (tie.spec
     (λ c. search needs)
     (λ c. search needs)
-    slice-write-mem
-    (λ c. search needs)
-    store-word-requires
-    (λ c. search needs)
-    (λ c. search needs)
-    store-word-requires-2
-    store-word-requires-3
-    (λ c. search needs)
     returns
     (λ c. search needs)
-    returns-2
     (λ c. search needs)
-    returns-3)
+    (λ c. search needs)
+    (λ c. search needs)
+    returns-2
+    (λ c κs. search needs)
+    (λ c. search needs)
+    (λ c. search needs)
+    returns-3
+    (λ c κs. search needs)
+    (λ c. search needs)
+    returns-4
+    (λ c. search needs)
+    returns-5
+    (λ c. search needs)
+    returns-6)

@@ -55,8 +55,6 @@ entered-spec =
     (λ c. search needs)
     (λ c κs. search needs)
     returns-3
-    (λ c. search needs)
-    (λ c. search needs)
     (λ c κs. search needs)
     (λ c. search needs)
     (λ c κs. search needs)

@@ -52,7 +52,7 @@ read-image-spec =
     (λ c κs. search needs)
     (λ c κs. search needs)
     returns-2
-    (λ c κs. taken c .0)
+    (λ c κs. search needs)
     (λ c κs. taken (c .before) .0)
     (λ c κs. (taken (c .before .before .before) .0, taken (c .before .before .before) .1, search needs))
     (λ c. search needs)

@@ -1,60 +1,23 @@
--- `memory::many::load_many` meets its contract: what is left to load, loaded, gives what is due. Assumes nothing.
-use Prim.Native.Nat.{_≤_, _<_, _-_, _^_}
-use mathlib.Core.Path.{_≡_, refl, sym, _∙_}
-use mathlib.Core.Bool.{true}
+-- `memory::many::load_many` meets its contract. Assumes nothing.
+use mathlib.Core.Path.{refl, sym, _∙_}
 use borrow.Author.Needs.{needs}
-use Rattle.manual.specs.Memory.{manyInside, loadedMany}
-use Rattle.memory.proofs.ManyLaws.{inside-this, inside-on, inside-past, loaded-on, loaded-past, loaded-none}
 use Rattle.memory.proofs.many.load_many.Statement.{statement}
 use Rattle.memory.proofs.many.load_many.Tie as tie
 
-abbrev Inv-loop : tie.InvT-loop
-Inv-loop mem given start g₀ mask₀ at₀ n₀ g mask at n =
-    (n ≤ 16) × (at < 2 ^ 32) × (manyInside (16 - n) mem mask at ≡ true)
-    × (loadedMany (16 - n) mem n mask at g ≡ loadedMany 16 mem 0 given start g₀)
+load-all-requires : tie.Need-load-all-requires
+load-all-requires c κs = sym (c .before .before .many-inside .ensures) ∙ c .before .if1 .taken
 
-abbrev μ-loop : tie.MeasureT-loop
-μ-loop mem given start g₀ mask₀ at₀ n₀ g mask at n = 16 - n
+returns : tie.Need-returns
+returns c = (sym (c .before .before .if1 .taken) ∙ c .before .before .before .many-inside .ensures, c .load-all .ensures)
 
-long-at-requires : tie.Need-long-at-requires Inv-loop μ-loop
-long-at-requires c κs = inside-this _ (c .before .loop-test .taken) _ _ _ (c .if1 .taken) (c .before .before .loop .inv .2)
-
-loop-again : tie.Need-loop-again Inv-loop μ-loop
-loop-again c =
-    let i = c .before .before in
-    let v = i .before .before .loop .inv in (
-      search needs,
-      search needs,
-      rw (c .next .ensures) (sym (inside-on _ (i .before .loop-test .taken) _ _ _ (i .if1 .taken) (inside-this _ (i .before .loop-test .taken) _ _ _ (i .if1 .taken) (v .2))) ∙ v .2),
-      loaded-on _ (i .before .loop-test .taken) _ _ _ _ _ _ _ (i .if1 .taken) (c .next .ensures) (c .before .long-at .ensures) (v .3),
-    )
-
-loop-again-2 : tie.Need-loop-again-2 Inv-loop μ-loop
-loop-again-2 c = (
-  search needs,
-  search needs,
-  sym (inside-past _ (c .before .loop-test .taken) _ _ _ (c .if1 .left)) ∙ c .before .before .loop .inv .2,
-  sym (loaded-past _ (c .before .loop-test .taken) _ _ _ _ (c .if1 .left)) ∙ c .before .before .loop .inv .3,
-)
-
-returns : tie.Need-returns Inv-loop μ-loop
-returns c = sym (loaded-none _ (c .loop-test .left) _ _ _ _) ∙ c .before .loop .inv .3
+returns-2 : tie.Need-returns-2
+returns-2 c = (sym (c .if1 .left) ∙ c .before .many-inside .ensures, refl)
 
 pub load-many-spec : {M : Type 1} → statement M
 load-many-spec =
     tie.close
     (tie.spec
-    Inv-loop
-    μ-loop
-    (λ c. (search needs, search needs, c .before .pre, refl))
-    (λ c. search needs)
-    (λ c. search needs)
-    long-at-requires
-    (λ c. search needs)
-    (λ c. search needs)
     (λ c κs. search needs)
-    (λ c. search needs)
-    loop-again
-    (λ c. search needs)
-    loop-again-2
-    returns)
+    load-all-requires
+    returns
+    returns-2)

@@ -1,4 +1,4 @@
-// The calls that push a long on the stack and pop it.
+// The calls that push a long on the stack and pop it, refusals first.
 use exceptions::entry::refusal;
 use exceptions::status::admitted;
 use manual::Cpu;
@@ -27,10 +27,9 @@ pub fn push32(cpu: Cpu, mem: &mut [u8], v: u32) -> Stepped
     }
     let g = cpu.r;
     let sp = minus(address(&g, 7), 4);
-    if mem.len() < sp as usize + 4 {
+    if !store(mem, sp, Size::Long, v) {
         return refusal(cpu, Reply::NotInside);
     }
-    store(mem, sp as usize, Size::Long, v);
     let next = with_address(cpu, 7, sp);
     Stepped {
         reply: Reply::Done,

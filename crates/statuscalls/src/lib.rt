@@ -1,4 +1,4 @@
-// The calls that set the status register and tell its fields.
+// The calls that set the status register and tell its fields, refusals first.
 use exceptions::status::admitted;
 use exceptions::status::with_status;
 use manual::Answer;

@@ -1,8 +1,8 @@
--- `exceptioncalls::status::set_sr` meets its contract. Assumes nothing.
+-- `statuscalls::set_sr` meets its contract. Assumes nothing.
 use Rattle.manual.specs.Exceptions.{setSrCall as setSrCallOf}
 use borrow.Author.Needs.{needs}
-use Rattle.exceptioncalls.proofs.status.set_sr.Statement.{statement}
-use Rattle.exceptioncalls.proofs.status.set_sr.Tie as tie
+use Rattle.statuscalls.proofs.set_sr.Statement.{statement}
+use Rattle.statuscalls.proofs.set_sr.Tie as tie
 
 returns : tie.Need-returns
 unfolding setSrCallOf

@@ -1,10 +1,10 @@
--- `exceptioncalls::status::supervisor` meets its contract. Assumes nothing.
-use Rattle.exceptioncalls.proofs.StatusLaws.{one-bit}
+-- `statuscalls::supervisor` meets its contract. Assumes nothing.
+use Rattle.statuscalls.proofs.StatusLaws.{one-bit}
 use Prim.Native.Nat.{_/_, _%_}
 use native.Mathlib.Omega.{arith}
 use borrow.Author.Needs.{needs}
-use Rattle.exceptioncalls.proofs.status.supervisor.Statement.{statement}
-use Rattle.exceptioncalls.proofs.status.supervisor.Tie as tie
+use Rattle.statuscalls.proofs.supervisor.Statement.{statement}
+use Rattle.statuscalls.proofs.supervisor.Tie as tie
 
 returns : tie.Need-returns
 returns c = rw (← one-bit (c .before .before .args .cpu .sr / 0x2000 % 2) (omega arith)) (c .told .ensures)

@@ -1,9 +1,9 @@
--- `exceptioncalls::stack::pop32` meets its contract. Assumes nothing.
+-- `stackcalls::pop32` meets its contract. Assumes nothing.
 use borrow.Author.Tests.{not-true, not-false, lt-ltb, le-ltb, le-leb, lt-leb}
 use Rattle.manual.specs.Exceptions.{pop32 as pop32Of}
 use borrow.Author.Needs.{needs}
-use Rattle.exceptioncalls.proofs.stack.pop32.Statement.{statement}
-use Rattle.exceptioncalls.proofs.stack.pop32.Tie as tie
+use Rattle.stackcalls.proofs.pop32.Statement.{statement}
+use Rattle.stackcalls.proofs.pop32.Tie as tie
 
 returns : tie.Need-returns
 unfolding pop32Of

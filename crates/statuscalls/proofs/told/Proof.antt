@@ -1,8 +1,8 @@
--- `exceptioncalls::status::told` meets its contract. Assumes nothing.
+-- `statuscalls::told` meets its contract. Assumes nothing.
 use Rattle.manual.specs.Exceptions.{told as toldOf}
 use borrow.Author.Needs.{needs}
-use Rattle.exceptioncalls.proofs.status.told.Statement.{statement}
-use Rattle.exceptioncalls.proofs.status.told.Tie as tie
+use Rattle.statuscalls.proofs.told.Statement.{statement}
+use Rattle.statuscalls.proofs.told.Tie as tie
 
 returns : tie.Need-returns
 unfolding toldOf
