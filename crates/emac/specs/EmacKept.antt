@@ -78,16 +78,16 @@ pub acc-below : (fi : Bool) (a : ℕ) → accPart fi a < 2 ^ 32
 acc-below true a = omega arith
 acc-below false a = omega arith
 
-pub ext-below : (fi : Bool) (a : ℕ) → a < 2 ^ 48 → extPart fi a < 2 ^ 16
-ext-below true a h = omega arith
-ext-below false a h = omega arith
+pub ext-below : (fi : Bool) (a : ℕ) → extPart fi a < 2 ^ 16
+ext-below true a = omega arith
+ext-below false a = omega arith
 
 pub pattern-below : (fi : Bool) (acc ext : ℕ) → acc < 2 ^ 32 → ext < 2 ^ 16 → patternOf fi acc ext < 2 ^ 48
 pattern-below true acc ext h k = omega arith
 pattern-below false acc ext h k = omega arith
 
-pub turned-below : (old new : Bool) (a : ℕ) → a < 2 ^ 48 → turned old new a < 2 ^ 48
-turned-below old new a h = pattern-below new (accPart old a) (extPart old a) (acc-below old a) (ext-below old a h)
+pub turned-below : (old new : Bool) (a : ℕ) → turned old new a < 2 ^ 48
+turned-below old new a = pattern-below new (accPart old a) (extPart old a) (acc-below old a) (ext-below old a)
 
 -- ---- lists
 
@@ -98,9 +98,9 @@ set-below (x ∷ xs) zero v b (suc k) h hv = h
 set-below (x ∷ xs) (suc i) v b zero h hv = h
 set-below (x ∷ xs) (suc i) v b (suc k) h hv = set-below xs i v b k h hv
 
-map-below : (f : ℕ → ℕ) (b : ℕ) → ((a : ℕ) → a < b → f a < b) → (l : List ℕ) (k : ℕ) → getD l k 0 < b → getD (map f l) k 0 < b
+map-below : (f : ℕ → ℕ) (b : ℕ) → ((a : ℕ) → f a < b) → (l : List ℕ) (k : ℕ) → getD l k 0 < b → getD (map f l) k 0 < b
 map-below f b g [] k h = h
-map-below f b g (x ∷ xs) zero h = g x h
+map-below f b g (x ∷ xs) zero h = g x
 map-below f b g (x ∷ xs) (suc k) h = map-below f b g xs k h
 
 -- ---- a unit with an accumulator replaced

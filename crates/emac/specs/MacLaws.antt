@@ -16,22 +16,22 @@ use Rattle.emac.specs.NumberLaws.{mod48}
 use Rattle.emac.specs.declared.product.Raised.{Raised}
 use Rattle.emac.specs.declared.mac.AfterSum.{AfterSum}
 
-module _ (k : Mode) (a : ℕ) (h : a < 2 ^ 48) where
-  pub value-unsigned : unsigned k ≡ true → IsValue k a (a + 0x10_0000_0000_0000)
+module _ (k : Mode) (a : ℕ) where
+  pub value-unsigned : unsigned k ≡ true → IsValue k a (a % 2 ^ 48 + 0x10_0000_0000_0000)
   value-unsigned e = record { value = rw e (omega arith); low = omega arith; high = omega arith }
 
-  pub value-low : unsigned k ≡ false → a < 2 ^ 47 → IsValue k a (a + 0x10_0000_0000_0000)
+  pub value-low : unsigned k ≡ false → a % 2 ^ 48 < 2 ^ 47 → IsValue k a (a % 2 ^ 48 + 0x10_0000_0000_0000)
   value-low e l =
       record {
-        value = rw e (signed-up (2 ^ 52) (2 ^ 47) a (a + 2 ^ 52) (λ _. omega arith) (λ g. omega arith) (omega arith));
+        value = rw e (signed-up (2 ^ 52) (2 ^ 47) (a % 2 ^ 48) (a % 2 ^ 48 + 2 ^ 52) (λ _. omega arith) (λ g. omega arith) (omega arith));
         low = omega arith;
         high = omega arith;
       }
 
-  pub value-high : unsigned k ≡ false → 2 ^ 47 ≤ a → IsValue k a (a + 0xF_0000_0000_0000)
+  pub value-high : unsigned k ≡ false → 2 ^ 47 ≤ a % 2 ^ 48 → IsValue k a (a % 2 ^ 48 + 0xF_0000_0000_0000)
   value-high e l =
       record {
-        value = rw e (signed-up (2 ^ 52) (2 ^ 47) a (a + 0xF_0000_0000_0000) (λ g. omega arith) (λ _. omega arith) (omega arith));
+        value = rw e (signed-up (2 ^ 52) (2 ^ 47) (a % 2 ^ 48) (a % 2 ^ 48 + 0xF_0000_0000_0000) (λ g. omega arith) (λ _. omega arith) (omega arith));
         low = omega arith;
         high = omega arith;
       }

@@ -7,11 +7,9 @@ use super::flags::with_pav;
 use manual::Emac;
 use manual::Mode;
 ghost use mathlib.Core.Path.{_≡_};
-ghost use mathlib.Core.Bool.{true};
 ghost use Prim.Native.Nat.{_+_, _*_, _/_, _%_, _^_, _<_};
 ghost use Rattle.manual.specs.Word.{modZ};
 ghost use Rattle.manual.specs.Emac.{accOf, withAcc, accPart, extPart, patternOf, turned as turnedOf, setMacsr, loadedAs, moveTo, copyAcc, clearAcc, readExt, withExt, setExt, setMask};
-ghost use Rattle.manual.specs.Admitted.{emacAdmitted};
 
 pub fn acc_of(e: Emac, i: u32) -> u64
     ensures { λ a. ⌜ a ≡ accOf e i ⌝ }
@@ -44,9 +42,9 @@ pub fn ext_part(fi: bool, a: u64) -> u32
     ensures { λ r. ⌜ r ≡ extPart fi a ⌝ }
 {
     if fi {
-        (a / 0x100_0000_0000 * 0x100 + a % 0x100) as u32
+        (a / 0x100_0000_0000 % 0x100 * 0x100 + a % 0x100) as u32
     } else {
-        (a / 0x1_0000_0000) as u32
+        (a / 0x1_0000_0000 % 0x1_0000) as u32
     }
 }
 
@@ -134,7 +132,6 @@ pub fn clear_acc(e: Emac, i: u32) -> Emac
 }
 
 pub fn read_ext(fi: bool, e: Emac, i: u32) -> u32
-    requires { ⌜ emacAdmitted e ≡ true ⌝ }
     ensures { λ r. ⌜ r ≡ readExt fi e i ⌝ }
 {
     let high = ext_part(fi, acc_of(e, i));

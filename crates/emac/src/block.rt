@@ -1,20 +1,19 @@
 // An accumulator's number in the state block: 64 bits of two's complement.
 use manual::Mode;
 ghost use mathlib.Core.Path.{_≡_};
-ghost use Prim.Native.Nat.{_^_, _<_};
 ghost use Rattle.manual.specs.Emac.{blockNumber, blockInRange};
 
 pub fn block_number(k: Mode, a: u64) -> u64
-    requires { ⌜ a < 2 ^ 48 ⌝ }
     ensures { λ b. ⌜ b ≡ blockNumber k a ⌝ }
 {
+    let p = a % 0x1_0000_0000_0000;
     if !k.fi & k.su {
-        return a;
+        return p;
     }
-    if a < 0x8000_0000_0000 {
-        return a;
+    if p < 0x8000_0000_0000 {
+        return p;
     }
-    a + 0xFFFF_0000_0000_0000
+    p + 0xFFFF_0000_0000_0000
 }
 
 pub fn block_in_range(k: Mode, b: u64) -> bool

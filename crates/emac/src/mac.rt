@@ -10,25 +10,23 @@ use super::product::scaled;
 use manual::Emac;
 use manual::Mode;
 ghost use mathlib.Core.Path.{_≡_};
-ghost use mathlib.Core.Bool.{true};
 ghost use Prim.Native.Nat.{_+_, _-_, _^_, _<_, _≤_};
 ghost use Rattle.manual.specs.Word.{modZ};
 ghost use Rattle.manual.specs.Emac.{limit as limitOf, emacOf, accumulate as accumulateOf};
-ghost use Rattle.manual.specs.Admitted.{emacAdmitted};
 ghost use Rattle.emac.specs.Parts.{IsValue, IsSum, IsOutside, IsStored, IsSettled, IsSummed};
 
-// The number of a pattern.
+// The number of a pattern's 48 bits.
 pub(crate) fn value_of(k: Mode, a: u64) -> u64
-    requires { ⌜ a < 2 ^ 48 ⌝ }
     ensures { λ r. ⌜ IsValue k a r ⌝ }
 {
+    let p = a % 0x1_0000_0000_0000;
     if !k.fi & k.su {
-        return a + 0x10_0000_0000_0000;
+        return p + 0x10_0000_0000_0000;
     }
-    if a < 0x8000_0000_0000 {
-        return a + 0x10_0000_0000_0000;
+    if p < 0x8000_0000_0000 {
+        return p + 0x10_0000_0000_0000;
     }
-    a + 0xF_0000_0000_0000
+    p + 0xF_0000_0000_0000
 }
 
 // The sum or difference.
@@ -97,7 +95,6 @@ fn settled(k: Mode, m: u32, i: u32, over: bool, s: u64) -> AfterSum
 
 // The sum of accumulator i, whose pattern is a, and x times y, scaled, or where `sub` the difference.
 fn summed(m: u32, a: u64, i: u32, scale: u32, sub: bool, x: u32, y: u32) -> AfterSum
-    requires { ⌜ a < 2 ^ 48 ⌝ }
     ensures { λ r. ⌜ IsSummed m a i scale sub x y r ⌝ }
 {
     let k = mode_of(m);
@@ -113,7 +110,6 @@ fn summed(m: u32, a: u64, i: u32, scale: u32, sub: bool, x: u32, y: u32) -> Afte
 
 // MAC, and MSAC where `sub`: x times y, scaled, to accumulator i.
 pub fn accumulate(e: Emac, i: u32, scale: u32, sub: bool, x: u32, y: u32) -> Emac
-    requires { ⌜ emacAdmitted e ≡ true ⌝ }
     ensures { λ r. ⌜ r ≡ accumulateOf e i scale sub x y ⌝ }
 {
     let s = summed(e.macsr, acc_of(e, i), i, scale, sub, x, y);
@@ -131,7 +127,6 @@ pub fn accumulate_in(
     x: u32,
     y: u32,
 ) -> u32
-    requires { ⌜ emacAdmitted (emacOf macsr mask (now acc)) ≡ true ⌝ }
     ensures { λ r. ⌜ emacOf r mask (now (acc .exit)) ≡ accumulateOf (emacOf macsr mask (now (acc .entry))) i scale sub x y ⌝ }
 {
     let j = (i % 4) as usize;

@@ -56,7 +56,6 @@ fn clamp31(omc: bool, below: bool, q: u64) -> u32
 }
 
 pub fn mac_read(mode: Mode, a: u64) -> u32
-    requires { ⌜ a < 2 ^ 48 ⌝ }
     ensures { λ v. ⌜ v ≡ readAcc mode a ⌝ }
 {
     let r = value_of(mode, a);
@@ -68,10 +67,11 @@ pub fn mac_read(mode: Mode, a: u64) -> u32
         return clamp31(mode.omc, below, near8(mode.rt, r));
     }
     if mode.su {
-        if mode.omc & !(a < 0x1_0000_0000) {
+        let p = a % 0x1_0000_0000_0000;
+        if mode.omc & !(p < 0x1_0000_0000) {
             return 0xFFFF_FFFF;
         }
-        return (a % 0x1_0000_0000) as u32;
+        return (p % 0x1_0000_0000) as u32;
     }
     clamp31(mode.omc, below, r)
 }

@@ -21,10 +21,8 @@ use memory::load;
 use rows::line_of;
 use rows::row_of;
 ghost use mathlib.Core.Path.{_≡_};
-ghost use mathlib.Core.Bool.{true};
 ghost use Prim.Native.Nat.{_+_, _*_, _/_, _%_};
 ghost use Rattle.manual.specs.Emac.{emacOf};
-ghost use Rattle.manual.specs.Admitted.{emacAdmitted};
 ghost use Rattle.instructions.specs.Step.{instruction as instructionOf, execute as executeOf};
 
 fn instruction(
@@ -38,7 +36,6 @@ fn instruction(
     mem: &[u8],
     op: u32,
 ) -> Change
-    requires { ⌜ emacAdmitted (emacOf macsr mask (now acc)) ≡ true ⌝ }
     ensures { λ e. ⌜ e ≡ instructionOf (now (g .entry)) at sr other (emacOf macsr mask (now (acc .entry))) (now (mem .entry)) op ⌝ }
 {
     let row = row_of(op);
@@ -71,7 +68,6 @@ pub fn execute(
     acc: &[u64; 4],
     mem: &[u8],
 ) -> Change
-    requires { ⌜ emacAdmitted (emacOf macsr mask (now acc)) ≡ true ⌝ }
     ensures { λ e. ⌜ e ≡ executeOf (now (g .entry)) at sr other (emacOf macsr mask (now (acc .entry))) (now (mem .entry)) ⌝ }
 {
     match load(mem, at, Size::Word) {

@@ -19,11 +19,9 @@ use manual::EmacPart;
 use word::registers::write_general;
 use word::word::plus;
 ghost use mathlib.Core.Path.{_≡_};
-ghost use mathlib.Core.Bool.{true};
 ghost use Prim.Native.Nat.{_+_, _*_, _/_, _%_, _<_};
 ghost use Rattle.instructions.specs.LineA.{toGeneral, pair, fromAcc, lineA as lineAOf};
 ghost use Rattle.manual.specs.Emac.{emacOf, has, readExt};
-ghost use Rattle.manual.specs.Admitted.{emacAdmitted};
 
 // The unit of its parts. Few rows look at all of it, so that it is put together for them alone.
 fn unit(macsr: u32, mask: u32, acc: &[u64; 4]) -> Emac
@@ -38,7 +36,6 @@ fn unit(macsr: u32, mask: u32, acc: &[u64; 4]) -> Emac
 }
 
 fn from_acc(at: u32, sr: u16, e: Emac, op: u32) -> Change
-    requires { ⌜ emacAdmitted e ≡ true ⌝ }
     ensures { λ r. ⌜ r ≡ fromAcc at sr e op ⌝ }
 {
     let i = op / 512 % 4;
@@ -54,7 +51,6 @@ fn from_acc(at: u32, sr: u16, e: Emac, op: u32) -> Change
 }
 
 fn from_ext(at: u32, sr: u16, e: Emac, op: u32) -> Change
-    requires { ⌜ emacAdmitted e ≡ true ⌝ }
     ensures { λ r. ⌜ r ≡ toGeneral at sr op (readExt (has (e .macsr) 5) e (pair op)) ⌝ }
 {
     let fi = fractional(e.macsr);
@@ -72,7 +68,6 @@ pub fn linea(
     mem: &[u8],
     op: u32,
 ) -> Change
-    requires { ⌜ emacAdmitted (emacOf macsr mask (now acc)) ≡ true ⌝ }
     ensures { λ e. ⌜ e ≡ lineAOf row (now (g .entry)) at sr (emacOf macsr mask (now (acc .entry))) (now (mem .entry)) op ⌝ }
 {
     match row {

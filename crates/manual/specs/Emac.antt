@@ -82,9 +82,9 @@ scaleOf k s = cond (k .fi) 0 s
 
 -- ---- an accumulator
 
--- the number that a pattern of 48 bits stands for
+-- the number that the 48 bits of a pattern stand for
 abbrev pub valueOf : Mode → ℕ → ℤ
-valueOf k a = cond (unsigned k) (pos a) (signedAt (2 ^ 47) a)
+valueOf k a = cond (unsigned k) (pos (a % 2 ^ 48)) (signedAt (2 ^ 47) (a % 2 ^ 48))
 
 abbrev pub inWhole : ℕ → ℤ → Bool
 inWhole m (pos n) = ltb n m
@@ -157,7 +157,7 @@ abbrev pub accPart : Bool → ℕ → ℕ
 accPart fi a = cond fi (a / 2 ^ 8 % 2 ^ 32) (a % 2 ^ 32)
 
 abbrev pub extPart : Bool → ℕ → ℕ
-extPart fi a = cond fi (a / 2 ^ 40 * 2 ^ 8 + a % 2 ^ 8) (a / 2 ^ 32)
+extPart fi a = cond fi (a / 2 ^ 40 % 2 ^ 8 * 2 ^ 8 + a % 2 ^ 8) (a / 2 ^ 32 % 2 ^ 16)
 
 abbrev pub patternOf : Bool → ℕ → ℕ → ℕ
 patternOf fi acc ext = cond fi (ext / 2 ^ 8 * 2 ^ 40 + acc * 2 ^ 8 + ext % 2 ^ 8) (ext * 2 ^ 32 + acc)
@@ -188,7 +188,7 @@ readWith k a z =
     (modZ (clamped (k .omc) (2 ^ 31) (negative z) z) (2 ^ 32)))
 
 unfoldable pub readAcc : Mode → ℕ → ℕ
-readAcc k a = readWith k a (valueOf k a)
+readAcc k a = readWith k (a % 2 ^ 48) (valueOf k a)
 
 -- ---- MOVE.L <ea>,ACCx: the long as the mode reads it, with PAVn cleared
 

@@ -1,11 +1,5 @@
 use borrow.Author.Tests.{not-true, not-false, lt-ltb, le-ltb}
 use Rattle.manual.specs.EmacCalls.{accGetCall}
-use mathlib.Core.Path.{_≡_, sym, _∙_}
-use mathlib.Core.Bool.{true}
-use native.Mathlib.Omega.{arith}
-use Rattle.manual.specs.Admitted.{admitted}
-use Rattle.exceptions.specs.AdmittedLaws.{admitted-emac}
-use Rattle.emac.specs.EmacKept.{acc-small}
 use borrow.Author.Needs.{needs}
 use Rattle.emaccalls.proofs.acc_get.Statement.{statement}
 use Rattle.emaccalls.proofs.acc_get.Tie as tie
@@ -17,13 +11,6 @@ returns c = rw (← c .before .admitted .ensures, not-true (c .before .admitted 
 returns-2 : tie.Need-returns-2
 unfolding accGetCall
 returns-2 c = rw (← c .before .before .admitted .ensures, not-false (c .before .before .admitted .result) (c .before .if1 .left), le-ltb _ _ (c .if2 .taken))
-
-block-number-requires : tie.Need-block-number-requires
-block-number-requires c κs =
-    let c1 = c .before in let c2 = c1 .before in let c3 = c2 .before in let c4 = c3 .before in let c5 = c4 .before in
-    let x = c5 .before .args in
-    let ok : admitted (x .cpu) ≡ true = sym (c5 .admitted .ensures) ∙ not-false (c5 .admitted .result) (c4 .if1 .left) in
-    omega (arith, c .acc-of .ensures, acc-small (x .cpu .emac) (admitted-emac (x .cpu) ok) (x .i))
 
 returns-3 : tie.Need-returns-3
 unfolding accGetCall
@@ -40,5 +27,5 @@ acc-get-spec =
     returns-2
     (λ c κs. search needs)
     (λ c κs. search needs)
-    block-number-requires
+    (λ c κs. search needs)
     returns-3)

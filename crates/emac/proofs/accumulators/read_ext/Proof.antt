@@ -1,17 +1,16 @@
-use Prim.Native.Nat.{_+_, _%_}
 use native.Mathlib.Omega.{arith}
 use Rattle.manual.specs.Emac.{readExt}
 use Rattle.emac.proofs.MoveLaws.{acc-next}
-use Rattle.emac.specs.EmacKept.{acc-small, ext-below}
+use Rattle.emac.specs.EmacKept.{ext-below}
 use borrow.Author.Needs.{needs}
 use Rattle.emac.proofs.accumulators.read_ext.Statement.{statement}
 use Rattle.emac.proofs.accumulators.read_ext.Tie as tie
 
 cast-result-3 : tie.Need-cast-result-3
 cast-result-3 c =
-    let c1 = c .before in let c2 = c1 .before in let c3 = c2 .before in let d = c3 .before in let x = d .args in
-    let low = ext-below (x .fi) (c1 .acc-of2 .result) (omega (arith, c1 .acc-of2 .ensures, acc-small (x .e) (d .pre) (x .i % 4 + 1))) in
-    let high = ext-below (x .fi) (c3 .acc-of .result) (omega (arith, c3 .acc-of .ensures, acc-small (x .e) (d .pre) (x .i))) in
+    let c1 = c .before in let c2 = c1 .before in let c3 = c2 .before in let fi = c3 .before .args .fi in
+    let low = ext-below fi (c1 .acc-of2 .result) in
+    let high = ext-below fi (c3 .acc-of .result) in
     record { fits = omega (arith, low, high, c2 .ext-part .ensures, c .ext-part2 .ensures) }
 
 returns : tie.Need-returns

@@ -1,12 +1,7 @@
 use mathlib.Core.Path.{refl}
-use native.Mathlib.Omega.{arith}
-use Rattle.emac.specs.EmacKept.{acc-small}
 use borrow.Author.Needs.{needs}
 use Rattle.emac.proofs.mac.accumulate.Statement.{statement}
 use Rattle.emac.proofs.mac.accumulate.Tie as tie
-
-summed-requires : tie.Need-summed-requires
-summed-requires c κs = let d = c .before in omega (arith, c .acc-of .ensures, acc-small (d .args .e) (d .pre) (d .args .i))
 
 returns : tie.Need-returns
 returns c =
@@ -14,4 +9,4 @@ returns c =
     rw (c .with-acc .ensures) (c1 .summed .ensures .value (c2 .before .args .e) refl (c2 .acc-of .ensures))
 
 pub accumulate-spec : {M : Type 1} → statement M
-accumulate-spec = tie.close (tie.spec (λ c κs. search needs) summed-requires (λ c κs. search needs) returns)
+accumulate-spec = tie.close (tie.spec (λ c κs. search needs) (λ c κs. search needs) (λ c κs. search needs) returns)

@@ -1,13 +1,8 @@
 use mathlib.Core.Path.{refl}
-use Rattle.emac.specs.EmacKept.{acc-small}
 use Rattle.manual.specs.Emac.{emacOf, accOf, withAcc}
 use borrow.Author.Needs.{needs}
 use Rattle.emac.proofs.mac.accumulate_in.Statement.{statement}
 use Rattle.emac.proofs.mac.accumulate_in.Tie as tie
-
-summed-requires : tie.Need-summed-requires
-unfolding accOf
-summed-requires c κs = let x = c .before .args in acc-small (emacOf (x .macsr) (x .mask) _) (c .before .pre) (x .i)
 
 returns : tie.Need-returns
 unfolding withAcc accOf
@@ -20,7 +15,7 @@ accumulate-in-spec =
     (λ c. search needs)
     (λ c. search needs)
     (λ c. search needs)
-    summed-requires
+    (λ c κs. search needs)
     (λ c. search needs)
     (λ c. search needs)
     returns)

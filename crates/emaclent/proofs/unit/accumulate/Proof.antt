@@ -1,5 +1,4 @@
 use borrow.Author.Tests.{not-true, not-false, lt-ltb, le-ltb}
-use mathlib.Core.Path.{sym, _∙_}
 use Rattle.emaclent.specs.UnitCalls.{accumulateCall}
 use borrow.Author.Needs.{needs}
 use Rattle.emaclent.proofs.unit.accumulate.Statement.{statement}
@@ -17,9 +16,6 @@ returns-2 c =
     let c1 = c .before in let c2 = c1 .before in let c3 = c2 .before in
     rw (← c3 .emac-admitted .ensures, not-false (c3 .emac-admitted .result) (c2 .if1 .left), le-ltb _ _ (c1 .if2 .taken), ← c .refused2 .ensures)
 
-accumulate-requires : tie.Need-accumulate-requires
-accumulate-requires c κs = sym (c .before .before .emac-admitted .ensures) ∙ not-false (c .before .before .emac-admitted .result) (c .before .if1 .left)
-
 returns-3 : tie.Need-returns-3
 unfolding accumulateCall
 returns-3 c =
@@ -28,4 +24,4 @@ returns-3 c =
 
 pub accumulate-spec : {M : Type 1} → statement M
 accumulate-spec =
-    tie.close (tie.spec (λ c κs. search needs) (λ c κs. search needs) returns (λ c κs. search needs) returns-2 accumulate-requires returns-3)
+    tie.close (tie.spec (λ c κs. search needs) (λ c κs. search needs) returns (λ c κs. search needs) returns-2 (λ c κs. search needs) returns-3)

@@ -1,15 +1,7 @@
-use Rattle.emac.specs.EmacKept.{acc-small}
 use borrow.Author.Tests.{lt-ltb, le-ltb, le-leb, lt-leb, eq-eqb, ne-eqb}
 use Rattle.instructions.specs.LineA.{fromAcc as fromAccOf}
-use borrow.Author.Needs.{needs}
 use Rattle.linea.proofs.rowsa.from_acc.Statement.{statement}
 use Rattle.linea.proofs.rowsa.from_acc.Tie as tie
-
-acc-of-requires : tie.Need-acc-of-requires
-acc-of-requires c κs = search needs
-
-mac-read-requires : tie.Need-mac-read-requires
-mac-read-requires c κs = rw (c .acc-of .ensures) (acc-small _ (c .before .before .pre) _)
 
 returns : tie.Need-returns
 unfolding fromAccOf
@@ -28,8 +20,8 @@ from-acc-spec =
     tie.close
     (tie.spec
     (λ c κs. tt)
-    acc-of-requires
-    mac-read-requires
+    (λ c κs. tt)
+    (λ c κs. tt)
     (λ c κs. tt)
     (λ c κs. tt)
     (λ c κs. tt)

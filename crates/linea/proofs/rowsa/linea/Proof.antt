@@ -9,12 +9,6 @@ use Rattle.instructions.specs.LineA.{lineA as lineAOf}
 use Rattle.linea.proofs.rowsa.linea.Statement.{statement}
 use Rattle.linea.proofs.rowsa.linea.Tie as tie
 
-from-ext-requires : tie.Need-from-ext-requires
-from-ext-requires c κs = rw (c .unit .ensures) (c .before .before .before .pre)
-
-from-acc-requires : tie.Need-from-acc-requires
-from-acc-requires c κs = rw (c .unit2 .ensures) (c .before .before .before .pre)
-
 returns : tie.Need-returns
 unfolding lineAOf placeIn
 returns c = rw (c .before .match .keys1, ← c .macsr-to-ccr .ensures)
@@ -79,11 +73,11 @@ linea-spec =
     (λ c κs. tt)
     (λ c κs. tt)
     (λ c κs. tt)
-    from-ext-requires
     (λ c κs. tt)
     (λ c κs. tt)
     (λ c κs. tt)
-    from-acc-requires
+    (λ c κs. tt)
+    (λ c κs. tt)
     (λ c κs. tt)
     (λ c κs. tt)
     (λ c κs. tt)
