@@ -1,6 +1,6 @@
 // The calls that a host makes in C: a state block and a memory, each a pointer and a length.
-use block::read::read_block;
-use block::store::store_block;
+use blockread::read_block;
+use blockstore::store_block;
 use exceptioncalls::entry::exception as exception_call;
 use exceptioncalls::entry::interrupt as interrupt_call;
 use exceptioncalls::entry::rte as rte_call;

@@ -1,8 +1,8 @@
 // An image file, read into a memory and a state.
 use super::Loaded;
 use exceptions::status::admitted;
+use freshstate::fresh;
 use manual::Cpu;
-use manual::Emac;
 use manual::Reply;
 use memory::long_at;
 use replies::is_done;
@@ -15,25 +15,6 @@ ghost use lib.ListN.{length, getD};
 ghost use Rattle.manual.specs.Memory.{valueAt};
 ghost use Rattle.manual.specs.Block.{fresh as freshOf};
 ghost use Rattle.manual.specs.Image.{imageState, imageReply, imageBytes, image, loadImage};
-
-fn fresh() -> Cpu
-    ensures { λ r. ⌜ r ≡ freshOf ⌝ }
-{
-    Cpu {
-        r: [0; 16],
-        pc: 0,
-        sr: 0,
-        other: 0,
-        vbr: 0,
-        cacr: 0,
-        emac: Emac {
-            macsr: 0,
-            mask: 0xFFFF_FFFF,
-            acc: [0; 4],
-        },
-        stopped: false,
-    }
-}
 
 fn status_at(file: &[u8]) -> u16
     requires { ⌜ 15 ≤ length (now file) ⌝ }

@@ -1,6 +1,5 @@
 // Numbers in a lent memory, big-endian, at any address.
 pub mod many;
-pub mod number;
 
 use manual::Fault;
 use manual::Got;

@@ -1,11 +1,12 @@
 // Replays the original's answers on standard input (VECTORS.md), and prints how many of them this core gives too.
+mod number;
 mod patch;
 mod record;
 
 use libc::STDIN_FILENO;
 use libc::STDOUT_FILENO;
-use memory::long_at;
-use patch::wide;
+use number::long_at;
+use number::wide;
 use record::record;
 ghost use mathlib.Core.Path.{_≡_};
 ghost use Prim.Native.Nat.{_+_, _≤_, _<_};

@@ -1,25 +1,10 @@
 // Runs of bytes that are put into an array.
+use super::number::byte_at;
 ghost use mathlib.Core.Path.{_≡_};
-ghost use Prim.Native.Nat.{_+_, _≤_, _<_, min};
-ghost use lib.ListN.{length, getD, drop};
+ghost use Prim.Native.Nat.{_+_, _≤_, min};
+ghost use lib.ListN.{length, drop};
 ghost use lib.Seq.{paste as pasteOf};
 ghost use Rattle.replay.specs.Patches.{put as putOf, nextAt, nextPlace, putRun, patched, patch as patchedOf};
-
-pub(crate) fn wide(b: u8) -> usize
-    ensures { λ r. ⌜ (r ≡ b) × (r < 256) ⌝ }
-{
-    b as usize
-}
-
-// The byte at a place of the file, 0 after its end.
-fn byte_at(file: &[u8], at: usize) -> usize
-    ensures { λ r. ⌜ (r ≡ getD (now (file .entry)) at 0) × (r < 256) ⌝ }
-{
-    if at < file.len() {
-        return wide(file[at]);
-    }
-    0
-}
 
 // The place n bytes on, at most the end.
 fn onward(at: usize, n: usize, end: usize) -> usize

@@ -1,6 +1,7 @@
 // One record: a call, and the answer that is expected of it.
+use super::number::long_at;
+use super::number::wide;
 use super::patch::patch;
-use super::patch::wide;
 use check::same;
 use harness::exception;
 use harness::exception_at;
@@ -8,8 +9,6 @@ use harness::interrupt;
 use harness::rte;
 use harness::run;
 use harness::step;
-use memory::long_at;
-use memory::number::read_number;
 ghost use mathlib.Core.Path.{_≡_};
 ghost use Prim.Native.Nat.{_≤_, min};
 ghost use lib.Dec.{eqb};
@@ -59,6 +58,12 @@ fn call(head: &[u8; 16], block: &mut [u8], mem: &mut [u8]) -> u64
     rte(block, mem) as u64
 }
 
+fn expected(head: &[u8; 16]) -> u64
+    ensures { λ r. ⌜ r ≡ valueAt (now (head .entry)) 10 5 ⌝ }
+{
+    wide(head[10]) as u64 * 0x1_0000_0000 + long_at(head, 11) as u64
+}
+
 // Whether the call answers what the head expects, on as much of the block and the memory as it says.
 fn answers(head: &[u8; 16], block: &mut [u8], mem: &mut [u8]) -> bool
     ensures { λ r. ⌜ (r ≡ eqb (answered (now (head .entry)) (now (block .entry)) (now (mem .entry)) .answer) (valueAt (now (head .entry)) 10 5)) × (now (block .exit) ≡ answered (now (head .entry)) (now (block .entry)) (now (mem .entry)) .block) × (now (mem .exit) ≡ answered (now (head .entry)) (now (block .entry)) (now (mem .entry)) .memory) ⌝ }
@@ -67,7 +72,7 @@ fn answers(head: &[u8; 16], block: &mut [u8], mem: &mut [u8]) -> bool
     let m = least(wide(head[4]) * 256 + wide(head[5]), mem.len());
     let lent_block = &mut block[..b];
     let lent_mem = &mut mem[..m];
-    call(head, lent_block, lent_mem) == read_number(head, 10, 5)
+    call(head, lent_block, lent_mem) == expected(head)
 }
 
 // The arrays hold what the record before this one left. The block and the memory after it are those expected.

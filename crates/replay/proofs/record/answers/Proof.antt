@@ -51,8 +51,8 @@ slice-aggregate-lent-mem c = simp length-take (omega arith)
 call-requires : tie.Need-call-requires
 call-requires c κs = search needs
 
-read-number-requires : tie.Need-read-number-requires
-read-number-requires c κs = search needs
+expected-requires : tie.Need-expected-requires
+expected-requires c κs = search needs
 
 same-length : tie.Need-same-length
 same-length c = search needs
@@ -63,8 +63,8 @@ same-length-2 c = search needs
 returns : tie.Need-returns
 unfolding answered
 returns c =
-    let k = c .before .before .before .before .before .before in let l2 = k .before .before .before in let w3 = l2 .before in let w2 = w3 .before .before in let l1 = w2 .before .before in let w1 = l1 .before in (
-      rw (← w1 .wide .ensures .0, ← l1 .least .ensures, ← w2 .wide2 .ensures .0, ← w3 .wide3 .ensures .0, ← l2 .least2 .ensures, ← k .call .ensures, ← c .read-number .ensures),
+    let k = c .before .before .before .before .before in let l2 = k .before .before .before in let w3 = l2 .before in let w2 = w3 .before .before in let l1 = w2 .before .before in let w1 = l1 .before in (
+      rw (← w1 .wide .ensures .0, ← l1 .least .ensures, ← w2 .wide2 .ensures .0, ← w3 .wide3 .ensures .0, ← l2 .least2 .ensures, ← k .call .ensures, ← c .expected .ensures),
       rw (← w1 .wide .ensures .0, ← l1 .least .ensures, ← w2 .wide2 .ensures .0, ← w3 .wide3 .ensures .0, ← l2 .least2 .ensures, ← k .call .ensures),
       rw (← w1 .wide .ensures .0, ← l1 .least .ensures, ← w2 .wide2 .ensures .0, ← w3 .wide3 .ensures .0, ← l2 .least2 .ensures, ← k .call .ensures),
     )
@@ -88,7 +88,7 @@ answers-spec =
     slice-relend-prefix-lent-mem
     slice-aggregate-lent-mem
     call-requires
-    read-number-requires
+    expected-requires
     same-length
     same-length-2
     returns)
