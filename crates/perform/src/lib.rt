@@ -29,10 +29,8 @@ use word::registers::with_registers;
 use word::registers::with_stopped;
 use word::word::minus;
 ghost use mathlib.Core.Path.{_≡_};
-ghost use mathlib.Core.Bool.{true};
 ghost use Prim.Native.Nat.{_+_, _*_, _/_, _%_};
 ghost use Rattle.manual.specs.Reply.{outcome};
-ghost use Rattle.manual.specs.Admitted.{admitted};
 ghost use Rattle.instructions.specs.Perform.{statusPushed, perform as performOf};
 ghost use Rattle.perform.specs.Quiet.{quietly};
 
@@ -61,7 +59,6 @@ fn push_status(given: Cpu, cpu: Cpu, v: u32, mem: &mut [u8]) -> Stepped
 }
 
 pub fn perform(given: Cpu, change: Change, mem: &mut [u8]) -> Stepped
-    requires { ⌜ admitted given ≡ true ⌝ }
     ensures { λ r. ⌜ outcome r (now (mem .exit)) ≡ performOf given change (now (mem .entry)) ⌝ }
 {
     let cpu = applied(given, change);

@@ -1,12 +1,8 @@
 -- `perform::perform` meets its contract. Assumes nothing.
 use Rattle.instructions.specs.Perform.{perform as performOf}
 use borrow.Author.Needs.{needs}
-use Rattle.perform.proofs.PerformLaws.{applied-emac}
 use Rattle.perform.proofs.perform.Statement.{statement}
 use Rattle.perform.proofs.perform.Tie as tie
-
-accumulate-requires : tie.Need-accumulate-requires
-accumulate-requires c κs = rw (c .before .before .before .before .applied .ensures) (applied-emac (c .before .before .before .before .before .before .args .given) (c .before .before .before .before .before .before .args .change) (c .before .before .before .before .before .before .pre))
 
 returns : tie.Need-returns
 unfolding performOf
@@ -180,7 +176,7 @@ perform-spec =
     (λ c κs. search needs)
     (λ c κs. search needs)
     (λ c. search needs)
-    accumulate-requires
+    (λ c κs. search needs)
     (λ c κs. search needs)
     (λ c κs. search needs)
     (λ c. search needs)
