@@ -130,7 +130,7 @@ number e i = blockNumber (modeOf (e .macsr)) (accOf e i)
 
 module _ (e : Emac) (h : emacAdmitted e ≡ true) (small : e .mask < 2 ^ 32) (b : List ℕ) (l : length b ≡ 128) where
   below : (i : ℕ) → number e i < 2 ^ 64
-  below i = block-below (modeOf (e .macsr)) (accOf e i) (acc-small e h i)
+  below i = block-below (modeOf (e .macsr)) (accOf e i)
 
   length-unit : length (withUnit e b) ≡ 128
   unfolding withUnit withAccs
@@ -271,7 +271,7 @@ module _ (s : Cpu) (h : admitted s ≡ true) (g : Ranged s) where
   pattern-of i = pattern-block (modeOf (s .emac .macsr)) (accOf (s .emac) i) (acc-small (s .emac) unit i)
 
   fits-of : (i : ℕ) → blockInRange (modeOf (s .emac .macsr)) (number (s .emac) i) ≡ true
-  fits-of i = block-admitted (modeOf (s .emac .macsr)) (accOf (s .emac) i) (acc-small (s .emac) unit i)
+  fits-of i = block-admitted (modeOf (s .emac .macsr)) (accOf (s .emac) i)
 
   pub unit-back : emacAt (blockOf s) ≡ s .emac
   unfolding emacAt

@@ -8,12 +8,10 @@ use manual::Emac;
 use manual::Reply;
 use word::flags::bit;
 ghost use mathlib.Core.Path.{_≡_};
-ghost use mathlib.Core.Bool.{true};
 ghost use Prim.Native.Nat.{_+_, _≤_};
 ghost use lib.ListN.{length};
 ghost use Rattle.manual.specs.Memory.{storeAt};
 ghost use Rattle.manual.specs.Emac.{modeOf, accOf, blockNumber};
-ghost use Rattle.manual.specs.Admitted.{emacAdmitted, admitted as admittedOf};
 ghost use Rattle.manual.specs.Block.{headed, withLongs, withControls, withAccs, withUnit, blockOf, stored, storeBlock};
 
 // The n low bytes of v, highest first.
@@ -74,14 +72,13 @@ fn write_controls(cpu: Cpu, bytes: &mut [u8])
 }
 
 fn number_of(e: Emac, i: u32) -> u64
-    requires { ⌜ emacAdmitted e ≡ true ⌝ }
     ensures { λ r. ⌜ r ≡ blockNumber (modeOf (e .macsr)) (accOf e i) ⌝ }
 {
     block_number(mode_of(e.macsr), acc_of(e, i))
 }
 
 fn write_accs(bytes: &mut [u8], e: Emac)
-    requires { ⌜ (length (now bytes) ≡ 128) × (emacAdmitted e ≡ true) ⌝ }
+    requires { ⌜ length (now bytes) ≡ 128 ⌝ }
     ensures { λ _. ⌜ now (bytes .exit) ≡ withAccs e (now (bytes .entry)) ⌝ }
 {
     write_number(bytes, 95, 8, number_of(e, 0));
@@ -91,7 +88,7 @@ fn write_accs(bytes: &mut [u8], e: Emac)
 }
 
 fn write_unit(bytes: &mut [u8], e: Emac)
-    requires { ⌜ (length (now bytes) ≡ 128) × (emacAdmitted e ≡ true) ⌝ }
+    requires { ⌜ length (now bytes) ≡ 128 ⌝ }
     ensures { λ _. ⌜ now (bytes .exit) ≡ withUnit e (now (bytes .entry)) ⌝ }
 {
     write_long(bytes, 87, e.macsr);
@@ -100,7 +97,7 @@ fn write_unit(bytes: &mut [u8], e: Emac)
 }
 
 fn write_state(cpu: Cpu, bytes: &mut [u8])
-    requires { ⌜ (length (now bytes) ≡ 128) × (admittedOf cpu ≡ true) ⌝ }
+    requires { ⌜ length (now bytes) ≡ 128 ⌝ }
     ensures { λ _. ⌜ now (bytes .exit) ≡ blockOf cpu ⌝ }
 {
     let g = cpu.r;

@@ -1,13 +1,7 @@
 -- `blockstore::number_of` meets its contract. Assumes nothing.
-use native.Mathlib.Omega.{arith}
-use Rattle.emac.specs.EmacKept.{acc-small}
 use borrow.Author.Needs.{needs}
 use Rattle.blockstore.proofs.number_of.Statement.{statement}
 use Rattle.blockstore.proofs.number_of.Tie as tie
-
-block-number-requires : tie.Need-block-number-requires
-block-number-requires c κs =
-    let s = c .before .before in omega (arith, c .acc-of .ensures, acc-small (s .args .e) (s .pre) (s .args .i))
 
 returns : tie.Need-returns
 returns c = rw (← c .before .before .mode-of .ensures, ← c .before .acc-of .ensures) (c .block-number .ensures)
@@ -18,5 +12,5 @@ number-of-spec =
     (tie.spec
     (λ c κs. search needs)
     (λ c κs. search needs)
-    block-number-requires
+    (λ c κs. search needs)
     returns)

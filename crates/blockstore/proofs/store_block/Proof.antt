@@ -1,5 +1,4 @@
 -- `blockstore::store_block` meets its contract. Assumes nothing.
-use mathlib.Core.Path.{sym, _∙_}
 use borrow.Author.Tests.{not-true, not-false, eq-eqb, ne-eqb}
 use Rattle.manual.specs.Block.{storeBlock}
 use borrow.Author.Needs.{needs}
@@ -15,12 +14,6 @@ unfolding storeBlock
 returns-2 c =
     let a = c .before in
     rw (eq-eqb _ _ (a .before .if1 .left), ← a .admitted .ensures, not-true (a .admitted .result) (c .if2 .taken))
-
-write-state-requires : tie.Need-write-state-requires
-write-state-requires c κs =
-    let t = c .before in
-    let a = t .before in
-    (search needs, sym (a .admitted .ensures) ∙ not-false (a .admitted .result) (t .if2 .left))
 
 returns-3 : tie.Need-returns-3
 unfolding storeBlock
@@ -42,6 +35,6 @@ store-block-spec =
     returns
     (λ c κs. search needs)
     returns-2
-    write-state-requires
+    (λ c κs. search needs)
     (λ c. search needs)
     returns-3)

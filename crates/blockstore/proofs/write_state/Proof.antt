@@ -1,15 +1,8 @@
 -- `blockstore::write_state` meets its contract. Assumes nothing.
 use Rattle.manual.specs.Block.{blockOf}
-use Rattle.exceptions.specs.AdmittedLaws.{admitted-emac}
 use borrow.Author.Needs.{needs}
 use Rattle.blockstore.proofs.write_state.Statement.{statement}
 use Rattle.blockstore.proofs.write_state.Tie as tie
-
-write-unit-requires : tie.Need-write-unit-requires
-write-unit-requires c κs =
-    let headed = c .before .before .before .before .before .before .before .before .before .before .before .before in
-    let s = headed .before .before .before .before .before .before in
-    (search needs, admitted-emac (s .args .cpu) (s .pre .1))
 
 returns : tie.Need-returns
 unfolding blockOf
@@ -36,7 +29,7 @@ write-state-spec =
     (λ c κs. search needs)
     (λ c κs. search needs)
     (λ c κs. search needs)
-    write-unit-requires
+    (λ c κs. search needs)
     (λ c. search needs)
     (λ c κs. search needs)
     (λ c. search needs)
