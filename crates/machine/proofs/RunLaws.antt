@@ -9,7 +9,7 @@ use Rattle.manual.proofs.Reply
 use native.Mathlib.Omega.{arith}
 use native.Mathlib.Nat.{sub-zero}
 use lib.ListN.{length}
-use borrow.Author.Tests.{le-ltb, le-leb, lt-leb}
+use borrow.Author.Tests.{le-ltb}
 use Rattle.manual.specs.declared.Cpu.{Cpu}
 use Rattle.manual.specs.declared.Emac.{Emac}
 use Rattle.manual.specs.declared.Size.{Size}
@@ -127,20 +127,20 @@ module _ (g : List ℕ) (pc sr : ℕ) (e : Emac) (rest : Cpu) (m : List ℕ) (l 
       unfolding perform
       nothing h = rw (any, changed, h)
 
-      pub storing : (at : ℕ) (z : Size) (v n : ℕ) (m′ : List ℕ) → c .action ≡ Store at z v → n ≡ bytes z → at + n ≤ length m → m′ ≡ stored m at z v
+      pub storing : (at : ℕ) (z : Size) (v : ℕ) (r : Bool) (m′ : List ℕ) → c .action ≡ Store at z v → (r ≡ inside m at (bytes z)) × (m′ ≡ cond r (stored m at z v) m) → r ≡ true
           → completed (withParts g2 (c .pc) sr′ e rest) 0 m′ ≡ step state m
       unfolding perform
-      storing at z v n m′ h b i p = rw (any, changed, h, ← p, ← b, le-leb _ _ i)
+      storing at z v r m′ h p t = rw (any, changed, h, p .1, ← p .0, t)
 
       pub accumulating : (i s : ℕ) (sub : Bool) (x y : ℕ) (e′ : Emac) → c .action ≡ Accumulate i s sub x y → e′ ≡ accumulate e i s sub x y
           → completed (withParts g2 (c .pc) sr′ e′ rest) 0 m ≡ step state m
       unfolding perform withEmac withParts
       accumulating i s sub x y e′ h p = rw (any, changed, h, p)
 
-    pub outside : (at : ℕ) (z : Size) (v n : ℕ) (s : Cpu) → c .action ≡ Store at z v → n ≡ bytes z → length m < at + n → s ≡ state
-        → outcome (refusedAs NotInside s) m ≡ step state m
+    pub outside : (at : ℕ) (z : Size) (v : ℕ) (r : Bool) (m′ : List ℕ) (s : Cpu) → c .action ≡ Store at z v → (r ≡ inside m at (bytes z)) × (m′ ≡ cond r (stored m at z v) m) → r ≡ false → s ≡ state
+        → outcome (refusedAs NotInside s) m′ ≡ step state m
     unfolding perform refusal
-    outside at z v n s h b i p = rw (any, h, ← b, lt-leb _ _ i, p)
+    outside at z v r m′ s h p f q = rw (any, h, p .1, ← p .0, f, q)
 
 -- ---- the definition's run
 

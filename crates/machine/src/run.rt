@@ -16,7 +16,6 @@ use perform::perform;
 use word::registers::coded;
 use word::registers::with_parts;
 use word::registers::write;
-use word::word::bytes;
 ghost use mathlib.Core.Path.{_≡_};
 ghost use mathlib.Core.Bool.{true};
 ghost use Prim.Native.Nat.{_+_, _*_, _/_, _%_, _≤_};
@@ -86,12 +85,10 @@ fn advanced(given: Cpu, mem: &mut [u8], budget: u32) -> Progress
         match action {
             Action::Nothing => {}
             Action::Store(a, z, v) => {
-                let at = a as usize;
-                if mem.len() < at + bytes(z) as usize {
+                if !store(mem, a, z, v) {
                     let last = together(rest, g, pc, sr, macsr, mask, acc);
                     return ended(Reply::NotInside, n, 0, last);
                 }
-                store(mem, at, z, v);
             }
             Action::Accumulate(i, scale, sub, x, y) => {
                 macsr = accumulate_in(macsr, mask, &mut acc, i, scale, sub, x, y);

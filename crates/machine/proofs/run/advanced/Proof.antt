@@ -6,13 +6,13 @@ use mathlib.Core.Logic.{⊎-elim}
 use native.Mathlib.Omega.{arith}
 use lib.ListN.{length}
 use borrow.Author.Needs.{needs}
+use borrow.Author.Tests.{not-true, not-false}
 use Rattle.manual.specs.Registers.{withParts}
 use Rattle.manual.specs.Emac.{emacOf}
 use Rattle.manual.specs.Reply.{completed}
 use Rattle.manual.specs.Admitted.{admitted}
 use Rattle.manual.specs.declared.Reply.the-variants.{Stopped, NotInside}
 use Rattle.instructions.specs.Step.{step}
-use Rattle.memory.specs.MemoryLaws.{length-store}
 use Rattle.machine.specs.Advance.{progress}
 use Rattle.perform.specs.Quiet.{quietly}
 use Rattle.machine.proofs.RunLaws as laws
@@ -42,15 +42,16 @@ execute-requires : tie.Need-execute-requires Inv-loop μ-loop
 execute-requires c κs = laws.unit-admitted _ _ _ _ _ (c .before .before .before .before .before .loop .inv .2)
 
 same-length-2 : tie.Need-same-length-2 Inv-loop μ-loop
-same-length-2 c = c .before .before .before .before .before .before .before .before .before .before .before .before .before .before .before .loop .inv .1
+same-length-2 c = c .before .before .before .before .before .store .kept .0 ∙ c .before .before .before .before .before .before .before .before .before .before .before .before .before .before .before .before .before .before .loop .inv .1
 
 returns-2 : tie.Need-returns-2 Inv-loop μ-loop
 returns-2 c =
-    let l = c .before .before .before .before .before .before .before .before .before .before .before .before .before .before .before in let x = l .loop in
+    let l = c .before .before .before .before .before .before .before .before .before .before .before .before .before .before .before .before .before .before in let x = l .loop in
     let fit : length (x .mem) ≤ 0x100_0000 = rw (x .inv .1) (l .before .before .before .before .pre .0) in
+    let o = c .before .before .before .before .before .store in
     rw (c .ended2 .ensures)
-    (laws.stops _ (x .n) (x .vector) _ (withParts (x .g) (x .pc) (x .sr) (emacOf (x .macsr) (x .mask) (x .acc)) (x .rest)) (x .mem) (x .inv .3) (laws.refusedAs NotInside (c .before .together2 .result)) _ (c .before .before .before .before .before .before .before .before .before .before .before .before .before .before .loop-test .taken)
-    (laws.outside (x .g) (x .pc) (x .sr) (emacOf (x .macsr) (x .mask) (x .acc)) (x .rest) (x .mem) fit (x .inv .2) (c .before .before .before .before .before .before .before .before .before .before .before .before .before .if1 .left) (c .before .before .before .before .before .before .before .before .before .execute .result) (c .before .before .before .before .before .before .before .before .before .execute .ensures) _ _ _ _ _ (c .before .before .before .before .before .action .given .1) (c .before .before .before .bytes .ensures) (c .before .before .if2 .taken) (c .before .together2 .ensures)) refl)
+    (laws.stops _ (x .n) (x .vector) _ (withParts (x .g) (x .pc) (x .sr) (emacOf (x .macsr) (x .mask) (x .acc)) (x .rest)) (x .mem) (x .inv .3) (laws.refusedAs NotInside (c .before .together2 .result)) _ (c .before .before .before .before .before .before .before .before .before .before .before .before .before .before .before .before .before .loop-test .taken)
+    (laws.outside (x .g) (x .pc) (x .sr) (emacOf (x .macsr) (x .mask) (x .acc)) (x .rest) (x .mem) fit (x .inv .2) (c .before .before .before .before .before .before .before .before .before .before .before .before .before .before .before .before .if1 .left) (c .before .before .before .before .before .before .before .before .before .before .before .before .execute .result) (c .before .before .before .before .before .before .before .before .before .before .before .before .execute .ensures) _ _ _ (o .result) _ _ (c .before .before .before .before .before .before .before .before .action .given .1) (o .ensures) (not-true (o .result) (c .before .before .if2 .taken)) (c .before .together2 .ensures)) refl)
 
 accumulate-in-requires : tie.Need-accumulate-in-requires Inv-loop μ-loop
 accumulate-in-requires c κs = laws.unit-admitted _ _ _ _ _ (c .before .before .before .before .before .before .before .before .before .before .before .before .loop .inv .2)
@@ -92,13 +93,13 @@ loop-again-2 c =
     let t = c .before .before .before .before .before .match in
     let next = withParts (c .before .write2 .last .0) (c .before .before .before .before .before .before .before .before .execute .result .pc) (c .coded .result) (emacOf (t .macsr) (x .mask) (t .acc)) (x .rest) in
     let same : length (t .mem) ≡ length (x .mem) =
-    ⊎-elim (λ w. ap length (w .2)) (⊎-elim (λ w. ap length (w .9 ∙ w .6 .ensures) ∙ length-store (x .mem) _ _ _) (λ w. ap length (w .5))) (t .came) in
+    ⊎-elim (λ w. ap length (w .2)) (⊎-elim (λ w. ap length (w .8) ∙ w .4 .kept .0) (λ w. ap length (w .5))) (t .came) in
     let done : completed next 0 (t .mem) ≡ step (withParts (x .g) (x .pc) (x .sr) (emacOf (x .macsr) (x .mask) (x .acc)) (x .rest)) (x .mem) =
     ⊎-elim
     (λ w. rw (w .2, w .3, w .4) (laws.nothing (x .g) (x .pc) (x .sr) (emacOf (x .macsr) (x .mask) (x .acc)) (x .rest) (x .mem) fit (x .inv .2) (c .before .before .before .before .before .before .before .before .before .before .before .before .if1 .left) (c .before .before .before .before .before .before .before .before .execute .result) (c .before .before .before .before .before .before .before .before .execute .ensures) _ _ _ (c .before .before .before .write .ensures) (c .before .write2 .ensures) (c .coded .ensures) (w .1 .given .1)))
     (⊎-elim
-    (λ w. rw (w .9, w .10, w .11) (laws.storing (x .g) (x .pc) (x .sr) (emacOf (x .macsr) (x .mask) (x .acc)) (x .rest) (x .mem) fit (x .inv .2) (c .before .before .before .before .before .before .before .before .before .before .before .before .if1 .left) (c .before .before .before .before .before .before .before .before .execute .result) (c .before .before .before .before .before .before .before .before .execute .ensures) _ _ _ (c .before .before .before .write .ensures) (c .before .write2 .ensures) (c .coded .ensures)
-    _ _ _ _ _ (w .1 .given .1) (w .3 .ensures) (w .4 .left) (w .6 .ensures)))
+    (λ w. rw (w .8, w .9, w .10) (laws.storing (x .g) (x .pc) (x .sr) (emacOf (x .macsr) (x .mask) (x .acc)) (x .rest) (x .mem) fit (x .inv .2) (c .before .before .before .before .before .before .before .before .before .before .before .before .if1 .left) (c .before .before .before .before .before .before .before .before .execute .result) (c .before .before .before .before .before .before .before .before .execute .ensures) _ _ _ (c .before .before .before .write .ensures) (c .before .write2 .ensures) (c .coded .ensures)
+    _ _ _ (w .4 .result) _ (w .1 .given .1) (w .4 .ensures) (not-false (w .4 .result) (w .7 .left))))
     (λ w. rw (w .5, w .6, w .7) (laws.accumulating (x .g) (x .pc) (x .sr) (emacOf (x .macsr) (x .mask) (x .acc)) (x .rest) (x .mem) fit (x .inv .2) (c .before .before .before .before .before .before .before .before .before .before .before .before .if1 .left) (c .before .before .before .before .before .before .before .before .execute .result) (c .before .before .before .before .before .before .before .before .execute .ensures) _ _ _ (c .before .before .before .write .ensures) (c .before .write2 .ensures) (c .coded .ensures)
     _ _ _ _ _ _ (w .1 .given .1) (w .4 .ensures))))
     (t .came)
@@ -132,15 +133,11 @@ advanced-spec =
     execute-requires
     (λ c. search needs)
     (λ c. search needs)
-    (λ c. search needs)
     (λ c κs. search needs)
-    (λ c. search needs)
-    (λ c. search needs)
     (λ c κs. search needs)
     (λ c κs. search needs)
     same-length-2
     returns-2
-    (λ c κs. search needs)
     (λ c. search needs)
     accumulate-in-requires
     (λ c κs. search needs)
