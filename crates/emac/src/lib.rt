@@ -3,5 +3,4 @@ pub mod accumulators;
 pub mod block;
 pub mod flags;
 pub mod mac;
-pub mod product;
 pub mod read;

@@ -1,6 +1,6 @@
 // MOVE.L ACCy,Rx. Numbers are raised by 2^52.
-use super::mac::value_of;
-use super::product::rounds_up;
+use emacproduct::rounds_up;
+use emacsum::value_of;
 use manual::Mode;
 ghost use mathlib.Core.Path.{_≡_};
 ghost use mathlib.Core.Bool.{true};
@@ -14,7 +14,7 @@ fn near24(r: u64) -> u64
     ensures { λ q. ⌜ IsRounded true (2 ^ 24) r q ⌝ }
 {
     let q = r / 0x100_0000;
-    if rounds_up(0x100_0000, r % 0x100_0000, q) {
+    if rounds_up(0x80_0000, r % 0x100_0000, q) {
         return q + 1 + 0xF_FFFF_F000_0000;
     }
     q + 0xF_FFFF_F000_0000
@@ -26,7 +26,7 @@ fn near8(rt: bool, r: u64) -> u64
     ensures { λ q. ⌜ IsRounded rt (2 ^ 8) r q ⌝ }
 {
     let q = r / 0x100;
-    let up = rounds_up(0x100, r % 0x100, q);
+    let up = rounds_up(0x80, r % 0x100, q);
     if rt & up {
         return q + 1 + 0xF_F000_0000_0000;
     }

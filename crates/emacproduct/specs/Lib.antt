@@ -1,0 +1,4 @@
+pub mod Products
+pub mod BoolLaws
+pub mod RoundLaws
+pub mod ProductLaws
