@@ -15,7 +15,8 @@ use Rattle.manual.specs.Image.{loadImage, runText, answerLine, textOf}
 use Rattle.instructions.specs.Step.{step}
 use Rattle.instructions.specs.Run.{run}
 use Rattle.emaclent.specs.UnitCalls as unit
-use Rattle.harness.specs.Calls.{stepOn, runOn, rteOn, exceptionOn, interruptOn}
+use Rattle.blockcalls.specs.Calls.{rteOn, exceptionOn, interruptOn}
+use Rattle.harness.specs.Calls.{stepOn, runOn}
 
 -- what a promise allows is what is equal to x; two such outcomes are equal
 abbrev pub Determined : {A : Type 0} → A → Type 0

@@ -23,7 +23,8 @@ use Rattle.manual.specs.Exceptions.{exception, interrupt, rte}
 use Rattle.manual.specs.Block.{readBlock, storeBlock}
 use Rattle.instructions.specs.Step.{step}
 use Rattle.instructions.specs.Run.{RunOutcome, run}
-use Rattle.harness.specs.Calls.{Called, called, blockReply, notRead, settled, onBlock, stepOn, exceptionOn, interruptOn, rteOn, runOn}
+use Rattle.blockcalls.specs.Calls.{Called, called, blockReply, notRead, settled, onBlock, exceptionOn, interruptOn, rteOn}
+use Rattle.harness.specs.Calls.{stepOn, runOn}
 use Rattle.demands.specs.Refusals.{NotZero, Unchanged, is-refused, refusals}
 use Rattle.demands.specs.Runs.{Steps, none, one-more, runs}
 use Rattle.demands.specs.Admits.{admits}

@@ -1,1 +1,1 @@
-pub mod CallLaws
+pub mod RunLaws

@@ -1,85 +1,22 @@
 // The calls that a host makes in C: a state block and a memory, each a pointer and a length.
-use blockread::read_block;
-use blockstore::store_block;
-use exceptioncalls::entry::exception as exception_call;
-use exceptioncalls::entry::interrupt as interrupt_call;
-use exceptioncalls::entry::rte as rte_call;
+use blockcalls::exception as exception_call;
+use blockcalls::exception_at as exception_at_call;
+use blockcalls::interrupt as interrupt_call;
+use blockcalls::opened;
+use blockcalls::rte as rte_call;
+use blockcalls::settle;
 use machine::run::run as run_call;
 use machine::run::step as step_call;
-use manual::Answer;
-use manual::Cpu;
-use manual::Level;
-use manual::Reply;
-use manual::Stepped;
 use replies::is_done;
 use replies::number_of;
 ghost use mathlib.Core.Path.{_≡_};
-ghost use mathlib.Core.Bool.{true, false, cond};
-ghost use Prim.Native.Nat.{_+_, _*_, _≤_};
 ghost use Rattle.manual.specs.declared.Level.the-variants.{Kept, To};
-ghost use Rattle.manual.specs.Reply.{outcome};
-ghost use Rattle.manual.specs.Block.{readBlock, storeBlock};
-ghost use Rattle.harness.specs.Calls.{called, blockReply, onBlock, stepOn, runOn, exceptionOn, interruptOn, rteOn};
-ghost use Rattle.harness.specs.Made.{opened as openedOf, made as madeOf};
+ghost use Rattle.blockcalls.specs.Calls.{called, exceptionOn, interruptOn, rteOn};
+ghost use Rattle.harness.specs.Calls.{stepOn, runOn};
 
-// The calls that answer as a step does. A run answers a count.
-pub enum Call {
-    Step,
-    Rte,
-    Exception(u8, u32, Level),
-    Interrupt(u8, u8),
-}
-
-fn block_reply(reply: Reply, mem: &[u8]) -> Reply
-    ensures { λ r. ⌜ r ≡ blockReply reply (now (mem .entry)) ⌝ }
-{
-    let Reply::NotAdmitted = reply else {
-        return reply;
-    };
-    if 0x100_0000 < mem.len() {
-        return Reply::TooLong;
-    }
-    Reply::NotAdmitted
-}
-
-// The state that the block holds, or the reply that refuses the block.
-fn opened(block: &[u8], mem: &[u8]) -> Answer
-    ensures { λ r. ⌜ r ≡ openedOf (now (block .entry)) (now (mem .entry)) ⌝ }
-{
-    let read = read_block(block);
-    let told = read.reply;
-    let given = read.cpu;
-    let reply = block_reply(told, mem);
-    Answer {
-        reply: reply,
-        cpu: given,
-    }
-}
-
-// The new state goes into the block where something was done.
-fn settle(done: bool, cpu: Cpu, block: &mut [u8])
-    ensures { λ _. ⌜ now (block .exit) ≡ cond done (storeBlock cpu (now (block .entry)) .bytes) (now (block .entry)) ⌝ }
-{
-    if done {
-        store_block(cpu, block);
-    }
-}
-
-fn made(call: Call, cpu: Cpu, mem: &mut [u8]) -> Stepped
-    ensures { λ r. ⌜ outcome r (now (mem .exit)) ≡ madeOf call cpu (now (mem .entry)) ⌝ }
-{
-    match call {
-        Call::Step => step_call(cpu, mem),
-        Call::Rte => rte_call(cpu, &*mem),
-        Call::Exception(vector, pc, level) => exception_call(cpu, mem, vector, pc, level),
-        Call::Interrupt(vector, level) => interrupt_call(cpu, mem, vector, level),
-    }
-}
-
-// The vector counts `weight` times in the answer.
-fn on_block(block: &mut [u8], mem: &mut [u8], call: Call, weight: u32) -> u32
-    requires { ⌜ weight ≤ 256 ⌝ }
-    ensures { λ r. ⌜ called r (now (block .exit)) (now (mem .exit)) ≡ onBlock weight (readBlock (now (block .entry))) (madeOf call (readBlock (now (block .entry)) .cpu) (now (mem .entry))) (now (block .entry)) (now (mem .entry)) ⌝ }
+#[no_mangle]
+pub extern "C" fn step(block: &mut [u8], mem: &mut [u8]) -> u32
+    ensures { λ r. ⌜ called r (now (block .exit)) (now (mem .exit)) ≡ stepOn (now (block .entry)) (now (mem .entry)) ⌝ }
 {
     let read = opened(&*block, &*mem);
     let given = read.cpu;
@@ -87,52 +24,11 @@ fn on_block(block: &mut [u8], mem: &mut [u8], call: Call, weight: u32) -> u32
     if !is_done(refused) {
         return number_of(refused);
     }
-    let stepped = made(call, given, mem);
+    let stepped = step_call(given, mem);
     let reply = stepped.reply;
     let last = stepped.cpu;
     settle(is_done(reply), last, block);
-    number_of(reply) + weight * stepped.vector as u32
-}
-
-#[no_mangle]
-pub extern "C" fn step(block: &mut [u8], mem: &mut [u8]) -> u32
-    ensures { λ r. ⌜ called r (now (block .exit)) (now (mem .exit)) ≡ stepOn (now (block .entry)) (now (mem .entry)) ⌝ }
-{
-    on_block(block, mem, Call::Step, 256)
-}
-
-#[no_mangle]
-pub extern "C" fn rte(block: &mut [u8], mem: &mut [u8]) -> u32
-    ensures { λ r. ⌜ called r (now (block .exit)) (now (mem .exit)) ≡ rteOn (now (block .entry)) (now (mem .entry)) ⌝ }
-{
-    on_block(block, mem, Call::Rte, 0)
-}
-
-#[no_mangle]
-pub extern "C" fn exception(block: &mut [u8], mem: &mut [u8], vector: u8, pc: u32) -> u32
-    ensures { λ r. ⌜ called r (now (block .exit)) (now (mem .exit)) ≡ exceptionOn (now (block .entry)) (now (mem .entry)) vector pc Kept ⌝ }
-{
-    on_block(block, mem, Call::Exception(vector, pc, Level::Kept), 0)
-}
-
-#[no_mangle]
-pub extern "C" fn exception_at(
-    block: &mut [u8],
-    mem: &mut [u8],
-    vector: u8,
-    pc: u32,
-    level: u8,
-) -> u32
-    ensures { λ r. ⌜ called r (now (block .exit)) (now (mem .exit)) ≡ exceptionOn (now (block .entry)) (now (mem .entry)) vector pc (To level) ⌝ }
-{
-    on_block(block, mem, Call::Exception(vector, pc, Level::To(level)), 0)
-}
-
-#[no_mangle]
-pub extern "C" fn interrupt(block: &mut [u8], mem: &mut [u8], vector: u8, level: u8) -> u32
-    ensures { λ r. ⌜ called r (now (block .exit)) (now (mem .exit)) ≡ interruptOn (now (block .entry)) (now (mem .entry)) vector level ⌝ }
-{
-    on_block(block, mem, Call::Interrupt(vector, level), 0)
+    number_of(reply) + 256 * stepped.vector as u32
 }
 
 #[no_mangle]
@@ -150,4 +46,38 @@ pub extern "C" fn run(block: &mut [u8], mem: &mut [u8], budget: u32) -> u64
     let last = ran.cpu;
     settle(0 < ran.count, last, block);
     number_of(reply) as u64 + 256 * ran.count as u64
+}
+
+#[no_mangle]
+pub extern "C" fn rte(block: &mut [u8], mem: &mut [u8]) -> u32
+    ensures { λ r. ⌜ called r (now (block .exit)) (now (mem .exit)) ≡ rteOn (now (block .entry)) (now (mem .entry)) ⌝ }
+{
+    rte_call(block, mem)
+}
+
+#[no_mangle]
+pub extern "C" fn exception(block: &mut [u8], mem: &mut [u8], vector: u8, pc: u32) -> u32
+    ensures { λ r. ⌜ called r (now (block .exit)) (now (mem .exit)) ≡ exceptionOn (now (block .entry)) (now (mem .entry)) vector pc Kept ⌝ }
+{
+    exception_call(block, mem, vector, pc)
+}
+
+#[no_mangle]
+pub extern "C" fn exception_at(
+    block: &mut [u8],
+    mem: &mut [u8],
+    vector: u8,
+    pc: u32,
+    level: u8,
+) -> u32
+    ensures { λ r. ⌜ called r (now (block .exit)) (now (mem .exit)) ≡ exceptionOn (now (block .entry)) (now (mem .entry)) vector pc (To level) ⌝ }
+{
+    exception_at_call(block, mem, vector, pc, level)
+}
+
+#[no_mangle]
+pub extern "C" fn interrupt(block: &mut [u8], mem: &mut [u8], vector: u8, level: u8) -> u32
+    ensures { λ r. ⌜ called r (now (block .exit)) (now (mem .exit)) ≡ interruptOn (now (block .entry)) (now (mem .entry)) vector level ⌝ }
+{
+    interrupt_call(block, mem, vector, level)
 }

@@ -1,12 +1,10 @@
 -- `harness::interrupt` meets its contract. Assumes nothing.
 use borrow.Author.Needs.{needs}
-use Rattle.harness.specs.Calls.{interruptOn}
 use Rattle.harness.proofs.interrupt.Statement.{statement}
 use Rattle.harness.proofs.interrupt.Tie as tie
 
 returns : tie.Need-returns
-unfolding interruptOn
-returns c = c .before .before .before .before .on-block .ensures
+returns c = c .before .before .before .before .interrupt .ensures
 
 pub interrupt-spec : {M : Type 1} → statement M
 interrupt-spec =

@@ -1,12 +1,10 @@
 -- `harness::rte` meets its contract. Assumes nothing.
 use borrow.Author.Needs.{needs}
-use Rattle.harness.specs.Calls.{rteOn}
 use Rattle.harness.proofs.rte.Statement.{statement}
 use Rattle.harness.proofs.rte.Tie as tie
 
 returns : tie.Need-returns
-unfolding rteOn
-returns c = c .before .before .before .before .on-block .ensures
+returns c = c .before .before .before .before .rte .ensures
 
 pub rte-spec : {M : Type 1} → statement M
 rte-spec =

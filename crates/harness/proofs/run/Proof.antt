@@ -1,7 +1,7 @@
 -- `harness::run` meets its contract. Assumes nothing.
 use borrow.Author.Needs.{needs}
 use borrow.Author.Tests.{not-true, not-false}
-use Rattle.harness.proofs.CallLaws.{refused-run, ran-is}
+use Rattle.harness.proofs.RunLaws.{refused-run, ran-is}
 use Rattle.harness.proofs.run.Statement.{statement}
 use Rattle.harness.proofs.run.Tie as tie
 

@@ -1,7 +1,7 @@
--- `harness::opened` meets its contract. Assumes nothing.
+-- `blockcalls::opened` meets its contract. Assumes nothing.
 use borrow.Author.Needs.{needs}
-use Rattle.harness.proofs.opened.Statement.{statement}
-use Rattle.harness.proofs.opened.Tie as tie
+use Rattle.blockcalls.proofs.opened.Statement.{statement}
+use Rattle.blockcalls.proofs.opened.Tie as tie
 
 returns : tie.Need-returns
 returns c = rw (← c .before .before .read-block .ensures, ← c .block-reply .ensures)

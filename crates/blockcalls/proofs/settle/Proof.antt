@@ -1,7 +1,7 @@
--- `harness::settle` meets its contract. Assumes nothing.
+-- `blockcalls::settle` meets its contract. Assumes nothing.
 use borrow.Author.Needs.{needs}
-use Rattle.harness.proofs.settle.Statement.{statement}
-use Rattle.harness.proofs.settle.Tie as tie
+use Rattle.blockcalls.proofs.settle.Statement.{statement}
+use Rattle.blockcalls.proofs.settle.Tie as tie
 
 returns : tie.Need-returns
 returns c = let s = c .before .before in rw (s .before .before .if1 .taken, ← s .store-block .ensures)

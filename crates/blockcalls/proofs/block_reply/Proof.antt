@@ -1,10 +1,10 @@
--- `harness::block_reply` meets its contract. Assumes nothing.
+-- `blockcalls::block_reply` meets its contract. Assumes nothing.
 use borrow.Author.Needs.{needs}
 use borrow.Author.Tests.{lt-ltb, le-ltb}
-use Rattle.harness.specs.Calls.{blockReply}
-use Rattle.harness.proofs.CallLaws.{stands}
-use Rattle.harness.proofs.block_reply.Statement.{statement}
-use Rattle.harness.proofs.block_reply.Tie as tie
+use Rattle.blockcalls.specs.Calls.{blockReply}
+use Rattle.blockcalls.proofs.ReplyLaws.{stands}
+use Rattle.blockcalls.proofs.block_reply.Statement.{statement}
+use Rattle.blockcalls.proofs.block_reply.Tie as tie
 
 returns-2 : tie.Need-returns-2
 unfolding blockReply
