@@ -2,7 +2,7 @@
 -- state is stored in the block; otherwise the block is unchanged. The answer is the reply's number, and for a step the vector times 256.
 -- Document: "The host harness".
 use Prim.Native.Nat.{ℕ, _+_, _*_}
-use mathlib.Core.Bool.{Bool, true, false, cond}
+use mathlib.Core.Bool.{cond}
 use mathlib.Core.List.{List}
 use Rattle.manual.specs.declared.Cpu.{Cpu}
 use Rattle.manual.specs.declared.Level.{Level}

@@ -12,7 +12,7 @@ use manual::Stepped;
 use replies::is_done;
 use replies::number_of;
 ghost use mathlib.Core.Path.{_≡_};
-ghost use mathlib.Core.Bool.{true, false, cond};
+ghost use mathlib.Core.Bool.{cond};
 ghost use Rattle.manual.specs.declared.Level.the-variants.{Kept, To};
 ghost use Rattle.manual.specs.Reply.{outcome};
 ghost use Rattle.manual.specs.Block.{readBlock, storeBlock};
@@ -54,6 +54,7 @@ pub fn settle(done: bool, cpu: Cpu, block: &mut [u8])
     }
 }
 
+// The calls that do no step.
 enum Call {
     Rte,
     Exception(u8, u32, Level),

@@ -10,7 +10,7 @@ use Rattle.manual.specs.declared.Answer.{Answer}
 use Rattle.manual.specs.declared.Ran.{Ran}
 use Rattle.manual.specs.Reply.{numberOf, isDone}
 use Rattle.manual.specs.Block.{readBlock, storeBlock}
-use Rattle.instructions.specs.Run.{RunOutcome, runOutcome, run}
+use Rattle.instructions.specs.Run.{runOutcome, run}
 use Rattle.blockcalls.specs.Calls.{called, opened}
 use Rattle.blockcalls.specs.CallLaws.{told, reply-is}
 use Rattle.harness.specs.Calls.{runOn}

@@ -2,7 +2,6 @@
 use borrow.Author.Needs.{needs}
 use borrow.Author.Tests.{not-true, not-false}
 use denote.Ref.{now}
-use native.Mathlib.Omega.{arith}
 use Rattle.manual.specs.declared.Cpu.{Cpu}
 use Rattle.instructions.specs.Step.{step}
 use Rattle.blockcalls.specs.CallLaws.{refused-is, made-is}
