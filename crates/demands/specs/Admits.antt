@@ -9,7 +9,7 @@ use mathlib.Core.List.{List, []}
 use native.Mathlib.Omega.{arith}
 use lib.Bits.{bitAnd}
 use lib.Dec.{ltb, leb, eqb}
-use lib.IntN.{pos}
+use lib.IntN.{ℤ, pos}
 use lib.ListN.{length}
 use borrow.Author.Tests.{lt-ltb}
 use Rattle.manual.specs.declared.Cpu.{Cpu}
@@ -25,7 +25,7 @@ use Rattle.manual.specs.declared.Mode.{Mode}
 use Rattle.manual.specs.Word.{bytes, minus, signedAt, inHalf}
 use Rattle.manual.specs.Registers.{addressOf, withAddress, withRegisters, applied}
 use Rattle.manual.specs.Memory.{inside, valueAt, manyInside, loadedMany}
-use Rattle.manual.specs.Emac.{modeOf, accOf, valueOf, inRange, inWhole, unsigned}
+use Rattle.manual.specs.Emac.{modeOf, accOf, inRange, inWhole, unsigned}
 use Rattle.manual.specs.EmacCalls.{accSetCall, setAccPhysCall, setMacsrCall}
 use Rattle.manual.specs.Reply.{Outcome, completed, unchanged, isDone}
 use Rattle.manual.specs.Admitted.{status, admitted, emacAdmitted, tooLong, checked}
@@ -42,11 +42,15 @@ use Rattle.exceptions.specs.AdmittedLaws.{admitted-status, admitted-emac, regis
 use Rattle.emac.specs.EmacKept as emac
 use Rattle.emaccalls.specs.CallsKept as calls
 
+-- the number that all of a pattern stands for: of an admitted one nothing is cut to 48 bits
+abbrev pub whole : Mode → ℕ → ℤ
+whole k a = cond (unsigned k) (pos a) (signedAt (2 ^ 47) a)
+
 -- what an admitted state is
 pub record Means (s : Cpu) : Type 0 where
   pub sr-bits : bitAnd (s .sr) 0xB71F ≡ s .sr
   pub macsr-bits : s .emac .macsr ≤ 0xFFF
-  pub in-range : (i : ℕ) → let k : Mode = modeOf (s .emac .macsr) in inRange k (valueOf k (accOf (s .emac) i)) ≡ true
+  pub in-range : (i : ℕ) → let k : Mode = modeOf (s .emac .macsr) in inRange k (whole k (accOf (s .emac) i)) ≡ true
 
 pub record Admits : Type 0 where
   pub means : (s : Cpu) → s .sr < 2 ^ 16 → admitted s ≡ true → Means s
@@ -226,8 +230,7 @@ load-admitted f m = by (eqb (length m) imageMemory) (isDone (imageReply f)) refl
     by true false e = fresh-admitted
     by false b e = fresh-admitted
 
--- the number that a pattern of 48 bits stands for is in range
-range : (k : Mode) (a : ℕ) → a < 2 ^ 48 → inRange k (valueOf k a) ≡ true
+range : (k : Mode) (a : ℕ) → a < 2 ^ 48 → inRange k (whole k a) ≡ true
 range k a h = by (unsigned k)
   where
     by : (u : Bool) → cond u (inWhole (2 ^ 48) (cond u (pos a) (signedAt (2 ^ 47) a))) (inHalf (2 ^ 47) (cond u (pos a) (signedAt (2 ^ 47) a))) ≡ true

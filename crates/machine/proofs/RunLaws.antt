@@ -24,8 +24,7 @@ use Rattle.manual.specs.Registers.{written, coded, applied, withParts, withEmac
 use Rattle.manual.specs.Memory.{inside, stored}
 use Rattle.manual.specs.Emac.{accumulate}
 use Rattle.manual.specs.Reply.{Outcome, outcome, completed, unchanged, refusal, isDone}
-use Rattle.manual.specs.Admitted.{admitted, emacAdmitted}
-use Rattle.exceptions.specs.AdmittedLaws.{admitted-emac}
+use Rattle.manual.specs.Admitted.{admitted}
 use Rattle.instructions.specs.Perform.{perform}
 use Rattle.instructions.specs.Step.{execute, step}
 use Rattle.instructions.specs.Run.{RunOutcome, ended, afterOne, steps}
@@ -80,10 +79,6 @@ not-done WrongVersion h = refl
 not-done WrongLength h = refl
 
 -- ---- a state in parts
-
-pub unit-admitted : (g : List ℕ) (pc sr : ℕ) (e : Emac) (rest : Cpu) → admitted (withParts g pc sr e rest) ≡ true → emacAdmitted e ≡ true
-unfolding withParts
-unit-admitted g pc sr e rest h = admitted-emac (withParts g pc sr e rest) h
 
 pub parts : (s : Cpu) → withParts (s .r) (s .pc) (s .sr) (s .emac) s ≡ s
 unfolding withParts

@@ -38,9 +38,6 @@ returns c =
     (laws.stops _ (x .n) (x .vector) _ (withParts (x .g) (x .pc) (x .sr) (emacOf (x .macsr) (x .mask) (x .acc)) (x .rest)) (x .mem) (x .inv .3) (laws.refusedAs Stopped (c .before .together .result)) _ (c .before .before .before .loop-test .taken)
     (laws.halts (x .g) (x .pc) (x .sr) (emacOf (x .macsr) (x .mask) (x .acc)) (x .rest) (x .mem) fit (x .inv .2) _ (c .before .before .if1 .taken) (c .before .together .ensures)) refl)
 
-execute-requires : tie.Need-execute-requires Inv-loop μ-loop
-execute-requires c κs = laws.unit-admitted _ _ _ _ _ (c .before .before .before .before .before .loop .inv .2)
-
 same-length-2 : tie.Need-same-length-2 Inv-loop μ-loop
 same-length-2 c = c .before .before .before .before .before .store .kept .0 ∙ c .before .before .before .before .before .before .before .before .before .before .before .before .before .before .before .before .before .before .loop .inv .1
 
@@ -52,12 +49,6 @@ returns-2 c =
     rw (c .ended2 .ensures)
     (laws.stops _ (x .n) (x .vector) _ (withParts (x .g) (x .pc) (x .sr) (emacOf (x .macsr) (x .mask) (x .acc)) (x .rest)) (x .mem) (x .inv .3) (laws.refusedAs NotInside (c .before .together2 .result)) _ (c .before .before .before .before .before .before .before .before .before .before .before .before .before .before .before .before .before .loop-test .taken)
     (laws.outside (x .g) (x .pc) (x .sr) (emacOf (x .macsr) (x .mask) (x .acc)) (x .rest) (x .mem) fit (x .inv .2) (c .before .before .before .before .before .before .before .before .before .before .before .before .before .before .before .before .if1 .left) (c .before .before .before .before .before .before .before .before .before .before .before .before .execute .result) (c .before .before .before .before .before .before .before .before .before .before .before .before .execute .ensures) _ _ _ (o .result) _ _ (c .before .before .before .before .before .before .before .before .action .given .1) (o .ensures) (not-true (o .result) (c .before .before .if2 .taken)) (c .before .together2 .ensures)) refl)
-
-accumulate-in-requires : tie.Need-accumulate-in-requires Inv-loop μ-loop
-accumulate-in-requires c κs = laws.unit-admitted _ _ _ _ _ (c .before .before .before .before .before .before .before .before .before .before .before .before .loop .inv .2)
-
-perform-requires : tie.Need-perform-requires Inv-loop μ-loop
-perform-requires c κs = rw (c .before .together3 .ensures) (c .before .before .before .before .before .before .before .before .before .before .before .loop .inv .2)
 
 same-length-3 : tie.Need-same-length-3 Inv-loop μ-loop
 same-length-3 c =
@@ -130,7 +121,7 @@ advanced-spec =
     (λ c κs. search needs)
     (λ c. search needs)
     returns
-    execute-requires
+    (λ c κs. search needs)
     (λ c. search needs)
     (λ c. search needs)
     (λ c κs. search needs)
@@ -139,9 +130,9 @@ advanced-spec =
     same-length-2
     returns-2
     (λ c. search needs)
-    accumulate-in-requires
     (λ c κs. search needs)
-    perform-requires
+    (λ c κs. search needs)
+    (λ c κs. search needs)
     (λ c. search needs)
     (λ c κs. search needs)
     same-length-3
