@@ -1,6 +1,6 @@
 -- An accumulator's pattern, its number in the mode, and its number in the state block. Assumes nothing.
 use mathlib.Core.Path.{_≡_, sym, ap, _∙_}
-use mathlib.Core.Bool.{Bool, true, false, _||_, or-false}
+use mathlib.Core.Bool.{Bool, true, false, cond, _||_, or-false}
 use Prim.Native.Nat.{ℕ, suc, _+_, _-_, _%_, _^_, _≤_, _<_}
 use native.Mathlib.Nat.{mod-eq-of-lt}
 use native.Mathlib.Omega.{arith}
@@ -95,7 +95,11 @@ module _ (k : Mode) (a : ℕ) where
         le-leb 0xFFFF_8000_0000_0000 (a % 2 ^ 48 + 0xFFFF_0000_0000_0000) (omega arith),
       )))
 
-  -- every pattern stands for a number in the mode's range: so an admitted unit is what document 01 asks
+  -- of a pattern of 48 bits nothing is cut
+  pub value-whole : a < 2 ^ 48 → valueOf k a ≡ cond (unsigned k) (pos a) (signedAt (2 ^ 47) a)
+  value-whole h = rw (mod-eq-of-lt h)
+
+  -- every pattern stands for a number in the mode's range, an admitted one for its own: so an admitted unit is what document 01 asks
   pub in-range : inRange k (valueOf k a) ≡ true
   in-range = by-bool (unsigned k)
       (λ e. rw (e, lt-ltb (a % 2 ^ 48) (2 ^ 48) (omega arith)))
