@@ -6,90 +6,7 @@ use Rattle.execute.proofs.ExecuteLaws.{line-is, moves-are, past-lines}
 use borrow.Author.Needs.{needs}
 use Rattle.execute.proofs.instruction.Statement.{statement}
 use Rattle.execute.proofs.instruction.Tie as tie
-use Rattle.execute.proofs.instruction.Reads as reads
-use Rattle.execute.proofs.instruction.Lts as lts
-use Rattle.address.proofs.changes.not_carried.Reads as not-carried-reads
-use Rattle.line4.proofs.rows4.line4.Reads as line4-reads
-use Rattle.linea.proofs.rowsa.linea.Reads as linea-reads
-use Rattle.lines0to3.proofs.line0.line0.Reads as line0-reads
-use Rattle.lines0to3.proofs.moves.move_line.Reads as move-line-reads
-use Rattle.lines5to9.proofs.line5.line5.Reads as line5-reads
-use Rattle.lines5to9.proofs.line6.line6.Reads as line6-reads
-use Rattle.lines5to9.proofs.line7.line7.Reads as line7-reads
-use Rattle.lines5to9.proofs.line9d.line9.Reads as line9-reads
-use Rattle.lines5to9.proofs.line9d.lined.Reads as lined-reads
-use Rattle.linesbtof.proofs.lineb.lineb.Reads as lineb-reads
-use Rattle.linesbtof.proofs.linec.linec.Reads as linec-reads
-use Rattle.linesbtof.proofs.linee.linee.Reads as linee-reads
-use Rattle.linesbtof.proofs.linef.linef.Reads as linef-reads
-use Rattle.rows.proofs.line_of.Reads as line-of-reads
-use Rattle.rows.proofs.row_of.Reads as row-of-reads
 
--- src/execute.rt:44:9
-row-of-requires : tie.Need-row-of-requires
-row-of-requires c κs = search needs
-
--- src/execute.rt:45:9
-line-of-requires : tie.Need-line-of-requires
-line-of-requires c κs = search needs
-
--- src/execute.rt:47:14
-line0-requires : tie.Need-line0-requires
-line0-requires c κs = search needs
-
--- src/execute.rt:49:14
-line4-requires : tie.Need-line4-requires
-line4-requires c κs = search needs
-
--- src/execute.rt:50:14
-line5-requires : tie.Need-line5-requires
-line5-requires c κs = search needs
-
--- src/execute.rt:51:14
-line6-requires : tie.Need-line6-requires
-line6-requires c κs = search needs
-
--- src/execute.rt:52:14
-line7-requires : tie.Need-line7-requires
-line7-requires c κs = search needs
-
--- src/execute.rt:53:14
-not-carried-requires : tie.Need-not-carried-requires
-not-carried-requires c κs = search needs
-
--- src/execute.rt:54:14
-line9-requires : tie.Need-line9-requires
-line9-requires c κs = search needs
-
--- src/execute.rt:55:15
-linea-requires : tie.Need-linea-requires
-linea-requires c κs = search needs
-
--- src/execute.rt:56:15
-lineb-requires : tie.Need-lineb-requires
-lineb-requires c κs = search needs
-
--- src/execute.rt:57:15
-linec-requires : tie.Need-linec-requires
-linec-requires c κs = search needs
-
--- src/execute.rt:58:15
-lined-requires : tie.Need-lined-requires
-lined-requires c κs = search needs
-
--- src/execute.rt:59:15
-linee-requires : tie.Need-linee-requires
-linee-requires c κs = search needs
-
--- src/execute.rt:48:22
-move-line-requires : tie.Need-move-line-requires
-move-line-requires c κs = search needs
-
--- src/execute.rt:60:14
-linef-requires : tie.Need-linef-requires
-linef-requires c κs = search needs
-
--- src/execute.rt:30:1
 returns : tie.Need-returns
 unfolding instructionOf
 returns c =
@@ -183,22 +100,22 @@ pub instruction-spec : {M : Type 1} → statement M
 instruction-spec =
     tie.close
     (tie.spec
-    row-of-requires
-    line-of-requires
-    line0-requires
-    line4-requires
-    line5-requires
-    line6-requires
-    line7-requires
-    not-carried-requires
-    line9-requires
-    linea-requires
-    lineb-requires
-    linec-requires
-    lined-requires
-    linee-requires
-    move-line-requires
-    linef-requires
+    (λ c κs. search needs)
+    (λ c κs. search needs)
+    (λ c κs. search needs)
+    (λ c κs. search needs)
+    (λ c κs. search needs)
+    (λ c κs. search needs)
+    (λ c κs. search needs)
+    (λ c κs. search needs)
+    (λ c κs. search needs)
+    (λ c κs. search needs)
+    (λ c κs. search needs)
+    (λ c κs. search needs)
+    (λ c κs. search needs)
+    (λ c κs. search needs)
+    (λ c κs. search needs)
+    (λ c κs. search needs)
     returns
     returns-2
     returns-3

@@ -1,5 +1,4 @@
 -- `memory::inside_long` meets its contract. Assumes nothing.
-use native.Mathlib.Omega.{arith}
 use borrow.Author.Needs.{needs}
 use Rattle.memory.specs.MemoryLaws.{value-four}
 use Rattle.memory.proofs.inside_long.Statement.{statement}

@@ -1,5 +1,4 @@
 -- `memory::long_at` meets its contract. Assumes nothing.
-use native.Mathlib.Omega.{arith}
 use borrow.Author.Needs.{needs}
 use Rattle.memory.specs.MemoryLaws.{value-bytes}
 use Rattle.memory.proofs.long_at.Statement.{statement}

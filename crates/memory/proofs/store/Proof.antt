@@ -6,18 +6,6 @@ use Rattle.memory.specs.MemoryLaws.{store-one}
 use Rattle.memory.proofs.store.Statement.{statement}
 use Rattle.memory.proofs.store.Tie as tie
 
-returns : tie.Need-returns
-returns c = rw (c .before .enum-told .given .1, lt-leb _ _ (c .if1 .taken)) (refl, refl)
-
-returns-2 : tie.Need-returns-2
-returns-2 c = rw (c .before .enum-told2 .given .1, lt-leb _ _ (c .if2 .taken)) (refl, refl)
-
-returns-3 : tie.Need-returns-3
-returns-3 c = rw (c .before .enum-told3 .given .1, lt-leb _ _ (c .if3 .taken)) (refl, refl)
-
-returns-4 : tie.Need-returns-4
-returns-4 c = rw (c .before .enum-told .given .1, le-leb _ _ (c .if1 .left), store-one) (refl, refl)
-
 returns-5 : tie.Need-returns-5
 returns-5 c =
     rw (c .before .before .before .before .before .enum-told2 .given .1, le-leb _ _ (c .before .before .before .before .if2 .left)) (refl, c .before .before .store-word .ensures)
@@ -32,19 +20,19 @@ store-spec =
     (tie.spec
     (λ c. search needs)
     (λ c. search needs)
-    returns
+    (λ c. rw (c .before .enum-told .given .1, lt-leb _ _ (c .if1 .taken)) (refl, refl))
     (λ c. search needs)
     (λ c. search needs)
     (λ c. search needs)
     (λ c. search needs)
-    returns-2
+    (λ c. rw (c .before .enum-told2 .given .1, lt-leb _ _ (c .if2 .taken)) (refl, refl))
     (λ c κs. search needs)
     (λ c. search needs)
     (λ c. search needs)
-    returns-3
+    (λ c. rw (c .before .enum-told3 .given .1, lt-leb _ _ (c .if3 .taken)) (refl, refl))
     (λ c κs. search needs)
     (λ c. search needs)
-    returns-4
+    (λ c. rw (c .before .enum-told .given .1, le-leb _ _ (c .if1 .left), store-one) (refl, refl))
     (λ c. search needs)
     returns-5
     (λ c. search needs)

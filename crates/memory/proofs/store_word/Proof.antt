@@ -1,7 +1,7 @@
 -- `memory::store_word` meets its contract. Assumes nothing.
 use native.Mathlib.Omega.{arith}
 use borrow.Author.Needs.{needs}
-use lib.ListN.{length, length-set}
+use lib.ListN.{length-set}
 use Rattle.memory.specs.MemoryLaws.{store-two}
 use Rattle.memory.proofs.store_word.Statement.{statement}
 use Rattle.memory.proofs.store_word.Tie as tie

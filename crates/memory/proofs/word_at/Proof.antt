@@ -1,5 +1,4 @@
 -- `memory::word_at` meets its contract. Assumes nothing.
-use native.Mathlib.Omega.{arith}
 use borrow.Author.Needs.{needs}
 use Rattle.memory.specs.MemoryLaws.{value-two}
 use Rattle.memory.proofs.word_at.Statement.{statement}

@@ -4,12 +4,6 @@ use borrow.Author.Needs.{needs}
 use Rattle.replay.proofs.counted.Statement.{statement}
 use Rattle.replay.proofs.counted.Tie as tie
 
-add-records : tie.Need-add-records
-add-records c = search needs
-
-add-t7 : tie.Need-add-t7
-add-t7 c = search needs
-
 returns : tie.Need-returns
 returns c = (search needs, search needs, rw (c .before .if1 .taken), rw (c .before .if1 .taken), search needs)
 
@@ -22,4 +16,4 @@ returns-3 c =
     (search needs, search needs, rw (c .before .before .if1 .left), rw (c .before .before .if1 .left, ne-eqb _ _ (c .if2 .left)), search needs)
 
 pub counted-spec : {M : Type 1} → statement M
-counted-spec = tie.close (tie.spec add-records add-t7 returns returns-2 returns-3)
+counted-spec = tie.close (tie.spec (λ c. search needs) (λ c. search needs) returns returns-2 returns-3)

@@ -1,4 +1,4 @@
-use borrow.Author.Tests.{lt-ltb, le-ltb, le-leb, lt-leb, eq-eqb, ne-eqb}
+use borrow.Author.Tests.{eq-eqb, ne-eqb}
 use Rattle.instructions.specs.LineA.{loadAddress as loadAddressOf}
 use Rattle.linea.proofs.mac.load_address.Statement.{statement}
 use Rattle.linea.proofs.mac.load_address.Tie as tie

@@ -5,26 +5,6 @@ use Rattle.instructions.specs.LineA.{loadMoves as loadMovesOf}
 use Rattle.linea.proofs.mac.load_moves.Statement.{statement}
 use Rattle.linea.proofs.mac.load_moves.Tie as tie
 
-returns : tie.Need-returns
-unfolding loadMovesOf
-returns c = rw (c .before .match .keys1, ← c .no-write .ensures)
-
-returns-2 : tie.Need-returns-2
-unfolding loadMovesOf
-returns-2 c = rw (c .before .match .keys2, ← c .no-write2 .ensures)
-
-returns-3 : tie.Need-returns-3
-unfolding loadMovesOf
-returns-3 c = rw (c .before .match .keys3, ← c .no-write3 .ensures)
-
-returns-4 : tie.Need-returns-4
-unfolding loadMovesOf
-returns-4 c = rw (c .before .before .match .keys4, ← c .before .plus .ensures, ← c .write-address .ensures)
-
-returns-5 : tie.Need-returns-5
-unfolding loadMovesOf
-returns-5 c = rw (c .before .match .keys5, ← c .write-address2 .ensures)
-
 returns-6 : tie.Need-returns-6
 unfolding loadMovesOf
 returns-6 c =
@@ -33,6 +13,7 @@ returns-6 c =
     rw List·getD-eq-default (c .no-write4 .ensures)
 
 pub load-moves-spec : {M : Type 1} → statement M
+unfolding loadMovesOf
 load-moves-spec =
     tie.close
     (tie.spec
@@ -43,9 +24,9 @@ load-moves-spec =
     (λ c κs. tt)
     (λ c κs. tt)
     (λ c κs. tt)
-    returns
-    returns-2
-    returns-3
-    returns-4
-    returns-5
+    (λ c. rw (c .before .match .keys1, ← c .no-write .ensures))
+    (λ c. rw (c .before .match .keys2, ← c .no-write2 .ensures))
+    (λ c. rw (c .before .match .keys3, ← c .no-write3 .ensures))
+    (λ c. rw (c .before .before .match .keys4, ← c .before .plus .ensures, ← c .write-address .ensures))
+    (λ c. rw (c .before .match .keys5, ← c .write-address2 .ensures))
     returns-6)

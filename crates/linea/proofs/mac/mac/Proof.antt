@@ -1,14 +1,8 @@
-use borrow.Author.Tests.{lt-ltb, le-ltb, le-leb, lt-leb, eq-eqb, ne-eqb}
+use borrow.Author.Tests.{eq-eqb, ne-eqb}
 use Rattle.instructions.specs.LineA.{mac as macOf}
 use borrow.Author.Needs.{needs}
 use Rattle.linea.proofs.mac.mac.Statement.{statement}
 use Rattle.linea.proofs.mac.mac.Tie as tie
-
-enum-known-w : tie.Need-enum-known-w
-enum-known-w c = search needs
-
-enum-known-x : tie.Need-enum-known-x
-enum-known-x c = search needs
 
 returns : tie.Need-returns
 unfolding macOf
@@ -40,8 +34,8 @@ mac-spec =
     (tie.spec
     (λ c κs. tt)
     (λ c κs. tt)
-    enum-known-w
-    enum-known-x
+    (λ c. search needs)
+    (λ c. search needs)
     (λ c κs. tt)
     returns
     (λ c κs. tt)

@@ -3,32 +3,11 @@ use borrow.Author.Needs.{needs}
 use Rattle.linea.proofs.mac.mac_load.Statement.{statement}
 use Rattle.linea.proofs.mac.mac_load.Tie as tie
 
-enum-known-v : tie.Need-enum-known-v
-enum-known-v c = search needs
-
-enum-known-x : tie.Need-enum-known-x
-enum-known-x c = search needs
-
 returns : tie.Need-returns
 unfolding macLoadOf
 returns c =
     let c1 = c .before in let c2 = c1 .before in let c3 = c2 .before in let c4 = c3 .before in let c5 = c4 .before in
     rw (← c5 .load-address .ensures, ← c4 .load .ensures, c2 .x .given .1, ← c .refused .ensures)
-
-mul-write-general : tie.Need-mul-write-general
-mul-write-general c = search needs
-
-add-write-general : tie.Need-add-write-general
-add-write-general c = search needs
-
-sub-i : tie.Need-sub-i
-sub-i c = search needs
-
-mul-i : tie.Need-mul-i
-mul-i c = search needs
-
-add-i : tie.Need-add-i
-add-i c = search needs
 
 returns-2 : tie.Need-returns-2
 unfolding macLoadOf
@@ -42,18 +21,18 @@ mac-load-spec =
     (tie.spec
     (λ c κs. tt)
     (λ c κs. tt)
-    enum-known-v
-    enum-known-x
+    (λ c. search needs)
+    (λ c. search needs)
     (λ c κs. tt)
     returns
     (λ c κs. tt)
-    mul-write-general
-    add-write-general
+    (λ c. search needs)
+    (λ c. search needs)
     (λ c κs. tt)
     (λ c κs. tt)
-    sub-i
-    mul-i
-    add-i
+    (λ c. search needs)
+    (λ c. search needs)
+    (λ c. search needs)
     (λ c κs. tt)
     (λ c κs. tt)
     returns-2)

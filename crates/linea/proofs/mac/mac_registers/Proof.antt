@@ -3,18 +3,6 @@ use borrow.Author.Needs.{needs}
 use Rattle.linea.proofs.mac.mac_registers.Statement.{statement}
 use Rattle.linea.proofs.mac.mac_registers.Tie as tie
 
-mul-i : tie.Need-mul-i
-mul-i c = search needs
-
-add-i : tie.Need-add-i
-add-i c = search needs
-
-mul-general : tie.Need-mul-general
-mul-general c = search needs
-
-add-general : tie.Need-add-general
-add-general c = search needs
-
 returns : tie.Need-returns
 unfolding macRegistersOf
 returns c =
@@ -27,10 +15,10 @@ mac-registers-spec =
     (tie.spec
     (λ c κs. tt)
     (λ c κs. tt)
-    mul-i
-    add-i
-    mul-general
-    add-general
+    (λ c. search needs)
+    (λ c. search needs)
+    (λ c. search needs)
+    (λ c. search needs)
     (λ c κs. tt)
     (λ c κs. tt)
     (λ c κs. tt)

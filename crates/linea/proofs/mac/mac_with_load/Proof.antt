@@ -1,4 +1,4 @@
-use borrow.Author.Tests.{lt-ltb, le-ltb, le-leb, lt-leb, eq-eqb, ne-eqb}
+use borrow.Author.Tests.{lt-ltb, le-ltb, eq-eqb, ne-eqb}
 use Rattle.instructions.specs.LineA.{macWithLoad as macWithLoadOf}
 use borrow.Author.Needs.{needs}
 use Rattle.linea.proofs.mac.mac_with_load.Statement.{statement}
@@ -11,12 +11,6 @@ returns c = rw (← c .before .before .address .ensures, lt-ltb _ _ (c .before .
 returns-2 : tie.Need-returns-2
 unfolding macWithLoadOf
 returns-2 c = rw (← c .before .before .before .address .ensures, le-ltb _ _ (c .before .before .if1 .left), eq-eqb _ _ (c .before .if2 .taken), ← c .not-carried .ensures)
-
-enum-known-d : tie.Need-enum-known-d
-enum-known-d c = search needs
-
-enum-known-x : tie.Need-enum-known-x
-enum-known-x c = search needs
 
 returns-3 : tie.Need-returns-3
 unfolding macWithLoadOf
@@ -53,8 +47,8 @@ mac-with-load-spec =
     returns-2
     (λ c κs. tt)
     (λ c κs. tt)
-    enum-known-d
-    enum-known-x
+    (λ c. search needs)
+    (λ c. search needs)
     (λ c κs. tt)
     returns-3
     (λ c κs. tt)

@@ -3,47 +3,17 @@ use borrow.Author.Needs.{needs}
 use Rattle.linea.proofs.moves.setting.Statement.{statement}
 use Rattle.linea.proofs.moves.setting.Tie as tie
 
-enum-told : tie.Need-enum-told
-enum-told c = search needs
-
-enum-told-2 : tie.Need-enum-told-2
-enum-told-2 c = search needs
-
-mul-t9 : tie.Need-mul-t9
-mul-t9 c = search needs
-
-enum-told-3 : tie.Need-enum-told-3
-enum-told-3 c = search needs
-
-enum-told-4 : tie.Need-enum-told-4
-enum-told-4 c = search needs
-
-returns : tie.Need-returns
-unfolding settingOf
-returns c = rw (c .enum-told .given .1)
-
-returns-2 : tie.Need-returns-2
-unfolding settingOf
-returns-2 c = rw (c .enum-told2 .given .1)
-
-returns-3 : tie.Need-returns-3
-unfolding settingOf
-returns-3 c = rw (c .enum-told3 .given .1)
-
-returns-4 : tie.Need-returns-4
-unfolding settingOf
-returns-4 c = rw (c .enum-told4 .given .1)
-
 pub setting-spec : {M : Type 1} → statement M
+unfolding settingOf
 setting-spec =
     tie.close
     (tie.spec
-    enum-told
-    enum-told-2
-    mul-t9
-    enum-told-3
-    enum-told-4
-    returns
-    returns-2
-    returns-3
-    returns-4)
+    (λ c. search needs)
+    (λ c. search needs)
+    (λ c. search needs)
+    (λ c. search needs)
+    (λ c. search needs)
+    (λ c. rw (c .enum-told .given .1))
+    (λ c. rw (c .enum-told2 .given .1))
+    (λ c. rw (c .enum-told3 .given .1))
+    (λ c. rw (c .enum-told4 .given .1)))

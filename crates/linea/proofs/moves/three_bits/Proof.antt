@@ -1,4 +1,4 @@
-use borrow.Author.Tests.{lt-ltb, le-ltb, le-leb, lt-leb, eq-eqb, ne-eqb}
+use borrow.Author.Tests.{eq-eqb, ne-eqb}
 use Rattle.instructions.specs.LineA.{threeBits as threeBitsOf}
 use Rattle.linea.proofs.moves.three_bits.Statement.{statement}
 use Rattle.linea.proofs.moves.three_bits.Tie as tie

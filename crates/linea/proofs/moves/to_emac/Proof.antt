@@ -3,12 +3,6 @@ use borrow.Author.Needs.{needs}
 use Rattle.linea.proofs.moves.to_emac.Statement.{statement}
 use Rattle.linea.proofs.moves.to_emac.Tie as tie
 
-enum-known-got : tie.Need-enum-known-got
-enum-known-got c = search needs
-
-enum-known-got-2 : tie.Need-enum-known-got-2
-enum-known-got-2 c = search needs
-
 returns : tie.Need-returns
 unfolding toEmacOf
 returns c =
@@ -27,8 +21,8 @@ to-emac-spec =
     (tie.spec
     (λ c κs. tt)
     (λ c κs. tt)
-    enum-known-got
-    enum-known-got-2
+    (λ c. search needs)
+    (λ c. search needs)
     (λ c κs. tt)
     returns
     (λ c κs. tt)

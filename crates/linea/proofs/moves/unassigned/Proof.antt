@@ -3,12 +3,6 @@ use borrow.Author.Needs.{needs}
 use Rattle.linea.proofs.moves.unassigned.Statement.{statement}
 use Rattle.linea.proofs.moves.unassigned.Tie as tie
 
-enum-told : tie.Need-enum-told
-enum-told c = search needs
-
-enum-known-got : tie.Need-enum-known-got
-enum-known-got c = search needs
-
 returns : tie.Need-returns
 unfolding unassignedOf
 returns c =
@@ -27,9 +21,9 @@ unassigned-spec =
     (tie.spec
     (λ c κs. tt)
     (λ c κs. tt)
-    enum-told
+    (λ c. search needs)
     (λ c κs. tt)
-    enum-known-got
+    (λ c. search needs)
     (λ c κs. tt)
     returns
     returns-2)

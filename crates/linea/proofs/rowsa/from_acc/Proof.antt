@@ -1,4 +1,4 @@
-use borrow.Author.Tests.{lt-ltb, le-ltb, le-leb, lt-leb, eq-eqb, ne-eqb}
+use borrow.Author.Tests.{eq-eqb, ne-eqb}
 use Rattle.instructions.specs.LineA.{fromAcc as fromAccOf}
 use Rattle.linea.proofs.rowsa.from_acc.Statement.{statement}
 use Rattle.linea.proofs.rowsa.from_acc.Tie as tie

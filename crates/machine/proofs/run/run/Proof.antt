@@ -1,39 +1,23 @@
 use mathlib.Core.Path.{sym, _∙_}
 use Rattle.machine.proofs.RunLaws.{run-is}
 use borrow.Author.Tests.{not-true, not-false}
-use borrow.Author.Tests.{lt-ltb, le-ltb, le-leb, lt-leb, eq-eqb, ne-eqb}
+use borrow.Author.Tests.{lt-ltb, le-ltb}
 use Rattle.instructions.specs.Run.{run as runOf}
 use borrow.Author.Needs.{needs}
 use Rattle.machine.proofs.run.run.Statement.{statement}
 use Rattle.machine.proofs.run.run.Tie as tie
-use Rattle.machine.proofs.run.run.Reads as reads
-use Rattle.machine.proofs.run.run.Lts as lts
-use Rattle.exceptions.proofs.status.admitted.Reads as admitted-reads
-use Rattle.machine.proofs.run.advanced.Reads as advanced-reads
 
--- src/run.rt:131:9
 returns : tie.Need-returns
 unfolding runOf
 returns c = rw (lt-ltb _ _ (c .if1 .taken))
 
--- src/run.rt:137:9
-admitted-requires : tie.Need-admitted-requires
-admitted-requires c κs = search needs
-
--- src/run.rt:138:9
 returns-2 : tie.Need-returns-2
 unfolding runOf
 returns-2 c = rw (le-ltb _ _ (c .before .before .if1 .left), ← c .before .admitted .ensures, not-true (c .before .admitted .result) (c .if2 .taken))
 
--- src/run.rt:144:9
 advanced-requires : tie.Need-advanced-requires
 advanced-requires c κs = (c .before .before .before .if1 .left, sym (c .before .before .admitted .ensures) ∙ not-false (c .before .before .admitted .result) (c .before .if2 .left))
 
--- src/run.rt:127:1
-same-length : tie.Need-same-length
-same-length c = search needs
-
--- src/run.rt:127:1
 returns-3 : tie.Need-returns-3
 unfolding runOf
 returns-3 c =
@@ -43,4 +27,4 @@ returns-3 c =
 pub run-spec : {M : Type 1} → statement M
 run-spec =
     tie.close
-    (tie.spec returns admitted-requires returns-2 advanced-requires same-length returns-3)
+    (tie.spec returns (λ c κs. search needs) returns-2 advanced-requires (λ c. search needs) returns-3)

@@ -1,7 +1,6 @@
 -- `memory::many::many_inside` meets its contract: what is left to test gives what is due. Assumes nothing.
 use Prim.Native.Nat.{_≤_, _<_, _-_, _^_}
 use mathlib.Core.Path.{_≡_, sym, _∙_}
-use native.Mathlib.Omega.{arith}
 use borrow.Author.Needs.{needs}
 use Rattle.manual.specs.Memory.{manyInside}
 use Rattle.memory.proofs.ManyLaws.{inside-on, inside-not, inside-past, inside-none}

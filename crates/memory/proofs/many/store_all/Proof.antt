@@ -6,7 +6,7 @@ use native.Mathlib.Omega.{arith}
 use borrow.Author.Needs.{needs}
 use lib.ListN.{length}
 use Rattle.manual.specs.Memory.{manyInside, storedMany}
-use Rattle.memory.proofs.ManyLaws.{general-below, inside-this, inside-on, inside-past, stored-on, stored-past, stored-none}
+use Rattle.memory.proofs.ManyLaws.{inside-this, inside-on, inside-past, stored-on, stored-past, stored-none}
 use Rattle.memory.proofs.many.store_all.Statement.{statement}
 use Rattle.memory.proofs.many.store_all.Tie as tie
 

@@ -5,27 +5,9 @@ use borrow.Author.Needs.{needs}
 use Rattle.replay.proofs.patch.put.Statement.{statement}
 use Rattle.replay.proofs.patch.put.Tie as tie
 
-onward-requires : tie.Need-onward-requires
-onward-requires c κs = search needs
-
-sub-if1 : tie.Need-sub-if1
-sub-if1 c = search needs
-
-sub-if1-2 : tie.Need-sub-if1-2
-sub-if1-2 c = search needs
-
 returns : tie.Need-returns
 unfolding putOf
 returns c = rw (← c .before .onward .ensures, lt-ltb _ _ (c .if1 .taken))
-
-sub-paste : tie.Need-sub-paste
-sub-paste c = search needs
-
-paste-requires : tie.Need-paste-requires
-paste-requires c κs = search needs
-
-same-length : tie.Need-same-length
-same-length c = search needs
 
 returns-2 : tie.Need-returns-2
 unfolding putOf
@@ -37,11 +19,11 @@ pub put-spec : {M : Type 1} → statement M
 put-spec =
     tie.close
     (tie.spec
-    onward-requires
-    sub-if1
-    sub-if1-2
+    (λ c κs. search needs)
+    (λ c. search needs)
+    (λ c. search needs)
     returns
-    sub-paste
-    paste-requires
-    same-length
+    (λ c. search needs)
+    (λ c κs. search needs)
+    (λ c. search needs)
     returns-2)

@@ -4,33 +4,6 @@ use borrow.Author.Needs.{needs}
 use Rattle.replay.proofs.patch.put_run.Statement.{statement}
 use Rattle.replay.proofs.patch.put_run.Tie as tie
 
-byte-at-requires : tie.Need-byte-at-requires
-byte-at-requires c κs = search needs
-
-onward-requires : tie.Need-onward-requires
-onward-requires c κs = search needs
-
-onward-requires-2 : tie.Need-onward-requires-2
-onward-requires-2 c κs = search needs
-
-byte-at-requires-2 : tie.Need-byte-at-requires-2
-byte-at-requires-2 c κs = search needs
-
-onward-requires-3 : tie.Need-onward-requires-3
-onward-requires-3 c κs = search needs
-
-put-requires : tie.Need-put-requires
-put-requires c κs = search needs
-
-onward-requires-4 : tie.Need-onward-requires-4
-onward-requires-4 c κs = search needs
-
-onward-requires-5 : tie.Need-onward-requires-5
-onward-requires-5 c κs = search needs
-
-same-length : tie.Need-same-length
-same-length c = search needs
-
 returns : tie.Need-returns
 unfolding nextAt nextPlace putRun
 returns c =
@@ -44,13 +17,13 @@ pub put-run-spec : {M : Type 1} → statement M
 put-run-spec =
     tie.close
     (tie.spec
-    byte-at-requires
-    onward-requires
-    onward-requires-2
-    byte-at-requires-2
-    onward-requires-3
-    put-requires
-    onward-requires-4
-    onward-requires-5
-    same-length
+    (λ c κs. search needs)
+    (λ c κs. search needs)
+    (λ c κs. search needs)
+    (λ c κs. search needs)
+    (λ c κs. search needs)
+    (λ c κs. search needs)
+    (λ c κs. search needs)
+    (λ c κs. search needs)
+    (λ c. search needs)
     returns)
