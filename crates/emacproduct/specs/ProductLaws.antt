@@ -10,11 +10,11 @@ use borrow.Author.Tests.{ltb-true, lt-ltb, le-ltb, le-leb, lt-leb, eq-eqb, ne-eq
 use Rattle.manual.specs.declared.Size.the-variants.{Long}
 use Rattle.manual.specs.declared.Mode.{Mode}
 use Rattle.manual.specs.Word.{signed, inHalf, negative}
-use Rattle.manual.specs.Emac.{fraction, signedProduct, unsignedProduct, productOf, productOver, scaleOf, roundsUp}
+use Rattle.manual.specs.Emac.{fraction, signedProduct, unsignedProduct, productOf, productOver, scaled, scaleOf, roundsUp}
 use Rattle.word.specs.SignedLaws.{signed-pos, signed-neg}
 use Rattle.word.specs.WordLaws.{cut-small}
 use Rattle.word.specs.RaisedLaws.{Up, higher, plus, up-neg, up-negative, out-half, signed-up}
-use Rattle.emacproduct.specs.Products.{magnitude, IsFraction, IsNumber, IsScaled, IsScaledProduct}
+use Rattle.emacproduct.specs.Products.{raised, raisedProduct, magnitude, IsFraction, IsNumber, IsScaled, IsScaledProduct}
 use Rattle.emacproduct.specs.declared.Raised.{Raised}
 use Rattle.emacproduct.specs.BoolLaws.{by-bool, and-left, and-right}
 use Rattle.emacproduct.specs.RoundLaws.{floor23, mod23, odd23, mod40, halved, round-up, round-down}
@@ -172,3 +172,36 @@ pub scaled-is : (k : Mode) (s x y : ℕ) (p : Raised) (w v : ℕ)
     → IsScaledProduct k s x y (record { value = v; over = p .over })
 scaled-is k s x y p w v hp ew hv =
     record { value = rw (← ew) (hv .value (productOf k x y) (hp .value)); over = hp .over; low = hv .low; high = hv .high }
+
+-- ---- raised numbers as an equation
+
+pub raised-is : (B : ℕ) (z : ℤ) (r : ℕ) → Up B z r → r ≡ raised B z
+raised-is B (pos n) r u = u
+raised-is B (negsuc n) r u = omega (arith, u)
+
+pub up-of : (B : ℕ) (z : ℤ) (r : ℕ) → r ≡ raised B z → 0 < r → Up B z r
+up-of B (pos n) r e h = e
+up-of B (negsuc n) r e h = omega (arith, e, h)
+
+abbrev pub Told : Mode → ℕ → ℕ → ℕ → Raised → Type 0
+Told k s x y r = (r ≡ raisedProduct k s x y) × (2 ^ 51 - 2 ≤ r .value) × (r .value ≤ 2 ^ 52 + 2 ^ 51)
+
+module _ (k : Mode) (s x y : ℕ) (r : Raised) where
+  abbrev product : ℤ
+  product = scaled (scaleOf k s) (productOf k x y)
+
+  pub told : IsScaledProduct k s x y r → Told k s x y r
+  unfolding raisedProduct
+  told h =
+      let e : r .value ≡ raised (2 ^ 52) product = raised-is (2 ^ 52) product (r .value) (h .value) in
+      (rw (← e, ← h .over), h .low, h .high)
+
+  pub taken : Told k s x y r → IsScaledProduct k s x y r
+  unfolding raisedProduct
+  taken (e, l, h) =
+      record {
+        value = up-of (2 ^ 52) product (r .value) (ap (λ (t : Raised). t .value) e) (omega (arith, l));
+        over = ap (λ (t : Raised). t .over) e;
+        low = l;
+        high = h;
+      }

@@ -9,7 +9,7 @@ ghost use Rattle.manual.specs.declared.Size.the-variants.{Long};
 ghost use Rattle.manual.specs.Word.{signed, inHalf};
 ghost use Rattle.manual.specs.Emac.{roundsUp, fraction as fractionOf, signedProduct, unsignedProduct, productOf, productOver, scaleOf};
 ghost use Rattle.word.specs.RaisedLaws.{Up};
-ghost use Rattle.emacproduct.specs.Products.{magnitude as magnitudeOf, IsFraction, IsNumber, IsScaled, IsScaledProduct};
+ghost use Rattle.emacproduct.specs.Products.{magnitude as magnitudeOf, IsFraction, raisedProduct, IsNumber, IsScaled};
 
 // A number raised by 2^52, and whether it overflowed.
 pub struct Raised {
@@ -162,7 +162,7 @@ fn scaled(s: u32, v: u64) -> u64
 
 // The product as an accumulator takes it.
 pub fn scaled_product(k: Mode, scale: u32, x: u32, y: u32) -> Raised
-    ensures { λ r. ⌜ IsScaledProduct k scale x y r ⌝ }
+    ensures { λ r. ⌜ (r ≡ raisedProduct k scale x y) × (2 ^ 51 - 2 ≤ r .value) × (r .value ≤ 2 ^ 52 + 2 ^ 51) ⌝ }
 {
     let p = mac_product(k, x, y);
     let v = scaled(scale_of(k, scale), p.value);

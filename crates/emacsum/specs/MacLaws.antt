@@ -14,7 +14,8 @@ use Rattle.manual.specs.Emac.{modeOf, pav, productOf, scaled, scaleOf, valueOf,
 use Rattle.word.specs.RaisedLaws.{Up, plus, minus, up-negative, out-half, out-whole, signed-up}
 use Rattle.emacsum.specs.Sums.{IsValue, IsSum, IsOutside, IsStored, IsSettled, IsSummed}
 use Rattle.emacproduct.specs.declared.Raised.{Raised}
-use Rattle.emacproduct.specs.Products.{IsScaledProduct}
+use Rattle.emacproduct.specs.Products.{raised, IsScaledProduct}
+use Rattle.emacproduct.specs.ProductLaws.{raised-is, up-of}
 use Rattle.emacsum.specs.declared.AfterSum.{AfterSum}
 
 module _ (k : Mode) (a : ℕ) where
@@ -36,6 +37,15 @@ module _ (k : Mode) (a : ℕ) where
         low = omega arith;
         high = omega arith;
       }
+
+  abbrev pub Told : ℕ → Type 0
+  Told r = (r ≡ raised (2 ^ 52) (valueOf k a)) × (2 ^ 52 - 2 ^ 47 ≤ r) × (r < 2 ^ 52 + 2 ^ 48)
+
+  pub told : (r : ℕ) → IsValue k a r → Told r
+  told r h = (raised-is (2 ^ 52) (valueOf k a) r (h .value), h .low, h .high)
+
+  pub taken : (r : ℕ) → Told r → IsValue k a r
+  taken r (e, l, h) = record { value = up-of (2 ^ 52) (valueOf k a) r e (omega (arith, l)); low = l; high = h }
 
 module _ (sub : Bool) (c v : ℕ) where
   pub difference : sub ≡ true → v ≤ c + 2 ^ 52 → IsSum sub c v (c + 0x10_0000_0000_0000 - v)

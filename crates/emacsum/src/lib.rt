@@ -1,18 +1,20 @@
-// The sum of MAC and MSAC: a product is added to an accumulator's number or taken from it. Numbers are raised by 2^52.
+// MAC and MSAC: a product is added to an accumulator's number or taken from it. Numbers are raised by 2^52.
 use emacflags::flagged;
 use emacflags::mode_of;
 use emacflags::pav;
 use emacproduct::scaled_product;
+use manual::Emac;
 use manual::Mode;
 ghost use mathlib.Core.Path.{_≡_};
 ghost use Prim.Native.Nat.{_+_, _-_, _^_, _<_, _≤_};
 ghost use Rattle.manual.specs.Word.{modZ};
-ghost use Rattle.manual.specs.Emac.{limit as limitOf};
-ghost use Rattle.emacsum.specs.Sums.{IsValue, IsSum, IsOutside, IsStored, IsSettled, IsSummed};
+ghost use Rattle.manual.specs.Emac.{valueOf, limit as limitOf, emacOf, accumulate as accumulateOf};
+ghost use Rattle.emacproduct.specs.Products.{raised};
+ghost use Rattle.emacsum.specs.Sums.{IsSum, IsOutside, IsStored, IsSettled, IsSummed};
 
 // The number of a pattern's 48 bits.
 pub fn value_of(k: Mode, a: u64) -> u64
-    ensures { λ r. ⌜ IsValue k a r ⌝ }
+    ensures { λ r. ⌜ (r ≡ raised (2 ^ 52) (valueOf k a)) × (2 ^ 52 - 2 ^ 47 ≤ r) × (r < 2 ^ 52 + 2 ^ 48) ⌝ }
 {
     let p = a % 0x1_0000_0000_0000;
     if !k.fi & k.su {
@@ -74,9 +76,9 @@ fn stored(k: Mode, out: bool, s: u64) -> u64
 }
 
 // MACSR and an accumulator's pattern after a sum.
-pub struct AfterSum {
-    pub macsr: u32,
-    pub acc: u64,
+struct AfterSum {
+    macsr: u32,
+    acc: u64,
 }
 
 fn settled(k: Mode, m: u32, i: u32, over: bool, s: u64) -> AfterSum
@@ -89,7 +91,7 @@ fn settled(k: Mode, m: u32, i: u32, over: bool, s: u64) -> AfterSum
 }
 
 // The sum of accumulator i, whose pattern is a, and x times y, scaled, or where `sub` the difference.
-pub fn summed(m: u32, a: u64, i: u32, scale: u32, sub: bool, x: u32, y: u32) -> AfterSum
+fn summed(m: u32, a: u64, i: u32, scale: u32, sub: bool, x: u32, y: u32) -> AfterSum
     ensures { λ r. ⌜ IsSummed m a i scale sub x y r ⌝ }
 {
     let k = mode_of(m);
@@ -100,4 +102,36 @@ pub fn summed(m: u32, a: u64, i: u32, scale: u32, sub: bool, x: u32, y: u32) -> 
     let p = scaled_product(k, scale, x, y);
     let c = value_of(k, a);
     settled(k, m, i, p.over, sum(sub, c, p.value))
+}
+
+// MAC, and MSAC where `sub`, of a unit in parts: x times y, scaled, to accumulator i, in place. MACSR after it.
+pub fn accumulate_in(
+    macsr: u32,
+    mask: u32,
+    acc: &mut [u64; 4],
+    i: u32,
+    scale: u32,
+    sub: bool,
+    x: u32,
+    y: u32,
+) -> u32
+    ensures { λ r. ⌜ emacOf r mask (now (acc .exit)) ≡ accumulateOf (emacOf macsr mask (now (acc .entry))) i scale sub x y ⌝ }
+{
+    let j = (i % 4) as usize;
+    let s = summed(macsr, acc[j], i, scale, sub, x, y);
+    acc[j] = s.acc;
+    s.macsr
+}
+
+// The same of a whole unit.
+pub fn accumulate(e: Emac, i: u32, scale: u32, sub: bool, x: u32, y: u32) -> Emac
+    ensures { λ r. ⌜ r ≡ accumulateOf e i scale sub x y ⌝ }
+{
+    let mut acc = e.acc;
+    let macsr = accumulate_in(e.macsr, e.mask, &mut acc, i, scale, sub, x, y);
+    Emac {
+        macsr: macsr,
+        mask: e.mask,
+        acc: acc,
+    }
 }

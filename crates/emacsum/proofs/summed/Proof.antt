@@ -1,5 +1,6 @@
 use native.Mathlib.Omega.{arith}
-use Rattle.emacsum.specs.MacLaws.{stays, sums}
+use Rattle.emacproduct.specs.ProductLaws as product
+use Rattle.emacsum.specs.MacLaws.{stays, sums, taken}
 use borrow.Author.Needs.{needs}
 use Rattle.emacsum.proofs.summed.Statement.{statement}
 use Rattle.emacsum.proofs.summed.Tie as tie
@@ -12,14 +13,15 @@ returns c =
 sum-requires : tie.Need-sum-requires
 sum-requires c κs =
     let v = c .value-of .ensures in let s = c .before .scaled-product .ensures in
-    (omega (arith, v .low, s .low), omega (arith, v .low, s .high), omega (arith, v .high), omega (arith, s .high))
+    (omega (arith, v .1, s .1), omega (arith, v .1, s .2), omega (arith, v .2), omega (arith, s .2))
 
 returns-2 : tie.Need-returns-2
 returns-2 c =
     let c1 = c .before in let c2 = c1 .before in let c3 = c2 .before in let c4 = c3 .before in let c5 = c4 .before in
     let c6 = c5 .before in let c7 = c6 .before in let x = c7 .before .args in
     sums (x .m) (x .a) (x .i) (x .scale) (x .sub) (x .x) (x .y) _ _ (c7 .mode-of .ensures) (c6 .pav .ensures) (c4 .if1 .left)
-    (c3 .scaled-product .result) _ _ _ (c3 .scaled-product .ensures) (c2 .value-of .ensures) (c1 .sum .ensures) (c .settled .ensures)
+    (c3 .scaled-product .result) _ _ _ (product.taken _ (x .scale) (x .x) (x .y) (c3 .scaled-product .result) (c3 .scaled-product .ensures))
+    (taken _ (x .a) _ (c2 .value-of .ensures)) (c1 .sum .ensures) (c .settled .ensures)
 
 pub summed-spec : {M : Type 1} → statement M
 summed-spec =

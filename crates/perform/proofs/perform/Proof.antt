@@ -4,12 +4,6 @@ use borrow.Author.Needs.{needs}
 use Rattle.perform.proofs.perform.Statement.{statement}
 use Rattle.perform.proofs.perform.Tie as tie
 
-returns : tie.Need-returns
-unfolding performOf
-returns c =
-    let c1 = c .before in let c2 = c1 .before in let c3 = c2 .before in let c4 = c3 .before in
-    rw (← c4 .applied .ensures, c1 .enum-told .given .1, ← c .quiet .ensures)
-
 returns-2 : tie.Need-returns-2
 unfolding performOf
 returns-2 c =
@@ -46,47 +40,11 @@ returns-7 c =
     let c1 = c .before in let c2 = c1 .before in let c3 = c2 .before in let c4 = c3 .before in let c5 = c4 .before in let c6 = c5 .before in let c7 = c6 .before in let c8 = c7 .before in let c9 = c8 .before in let c10 = c9 .before in
     rw (← c10 .applied .ensures, c7 .action3 .given .1, ← c2 .load-many .ensures .0, c1 .if3 .left, ← c .refusal3 .ensures)
 
-returns-8 : tie.Need-returns-8
-unfolding performOf
-returns-8 c =
-    let c1 = c .before in let c2 = c1 .before in let c3 = c2 .before in let c4 = c3 .before in let c5 = c4 .before in let c6 = c5 .before in let c7 = c6 .before in let c8 = c7 .before in
-    rw (← c8 .applied .ensures, c5 .action4 .given .1, ← c2 .entered .ensures)
-
-returns-9 : tie.Need-returns-9
-unfolding performOf
-returns-9 c =
-    let c1 = c .before in let c2 = c1 .before in let c3 = c2 .before in let c4 = c3 .before in let c5 = c4 .before in
-    rw (← c5 .applied .ensures, c2 .enum-told2 .given .1, ← c .left .ensures)
-
-returns-10 : tie.Need-returns-10
-unfolding performOf
-returns-10 c =
-    let c1 = c .before in let c2 = c1 .before in let c3 = c2 .before in let c4 = c3 .before in let c5 = c4 .before in let c6 = c5 .before in
-    rw (← c6 .applied .ensures, c3 .action5 .given .1, ← c1 .with-status .ensures, ← c .quiet5 .ensures)
-
 returns-11 : tie.Need-returns-11
 unfolding performOf
 returns-11 c =
     let c1 = c .before in let c2 = c1 .before in let c3 = c2 .before in let c4 = c3 .before in let c5 = c4 .before in let c6 = c5 .before in let c7 = c6 .before in
     rw (← c7 .applied .ensures, c4 .action6 .given .1, ← c2 .with-status2 .ensures, ← c1 .with-stopped .ensures, ← c .quiet6 .ensures)
-
-returns-12 : tie.Need-returns-12
-unfolding performOf
-returns-12 c =
-    let c1 = c .before in let c2 = c1 .before in let c3 = c2 .before in let c4 = c3 .before in let c5 = c4 .before in let c6 = c5 .before in let c7 = c6 .before in let c8 = c7 .before in
-    rw (← c8 .applied .ensures, c5 .action7 .given .1, ← c2 .push-status .ensures)
-
-returns-13 : tie.Need-returns-13
-unfolding performOf
-returns-13 c =
-    let c1 = c .before in let c2 = c1 .before in let c3 = c2 .before in let c4 = c3 .before in let c5 = c4 .before in
-    rw (← c5 .applied .ensures, c2 .enum-told3 .given .1, ← c1 .with-stopped2 .ensures, ← c .quiet7 .ensures)
-
-returns-14 : tie.Need-returns-14
-unfolding performOf
-returns-14 c =
-    let c1 = c .before in let c2 = c1 .before in let c3 = c2 .before in let c4 = c3 .before in let c5 = c4 .before in let c6 = c5 .before in
-    rw (← c6 .applied .ensures, c3 .action8 .given .1, ← c1 .with-other .ensures, ← c .quiet8 .ensures)
 
 returns-15 : tie.Need-returns-15
 unfolding performOf
@@ -130,13 +88,8 @@ returns-21 c =
     let c1 = c .before in let c2 = c1 .before in let c3 = c2 .before in let c4 = c3 .before in let c5 = c4 .before in let c6 = c5 .before in let c7 = c6 .before in
     rw (← c7 .applied .ensures, c4 .action15 .given .1, ← c2 .clear-acc .ensures, ← c1 .with-emac7 .ensures, ← c .quiet15 .ensures)
 
-returns-22 : tie.Need-returns-22
-unfolding performOf
-returns-22 c =
-    let c1 = c .before in let c2 = c1 .before in let c3 = c2 .before in let c4 = c3 .before in let c5 = c4 .before in
-    rw (← c5 .applied .ensures, c2 .action16 .given .1, ← c .refusal4 .ensures)
-
 pub perform-spec : {M : Type 1} → statement M
+unfolding performOf
 perform-spec =
     tie.close
     (tie.spec
@@ -205,7 +158,7 @@ perform-spec =
     (λ c κs. search needs)
     (λ c. search needs)
     (λ c κs. search needs)
-    returns
+    (λ c. rw (← c .before .before .before .before .applied .ensures, c .before .enum-told .given .1, ← c .quiet .ensures))
     (λ c. search needs)
     returns-2
     (λ c. search needs)
@@ -219,15 +172,15 @@ perform-spec =
     (λ c. search needs)
     returns-7
     (λ c. search needs)
-    returns-8
+    (λ c. rw (← c .before .before .before .before .before .before .before .before .applied .ensures, c .before .before .before .before .before .action4 .given .1, ← c .before .before .entered .ensures))
     (λ c. search needs)
-    returns-9
-    returns-10
+    (λ c. rw (← c .before .before .before .before .before .applied .ensures, c .before .before .enum-told2 .given .1, ← c .left .ensures))
+    (λ c. rw (← c .before .before .before .before .before .before .applied .ensures, c .before .before .before .action5 .given .1, ← c .before .with-status .ensures, ← c .quiet5 .ensures))
     returns-11
     (λ c. search needs)
-    returns-12
-    returns-13
-    returns-14
+    (λ c. rw (← c .before .before .before .before .before .before .before .before .applied .ensures, c .before .before .before .before .before .action7 .given .1, ← c .before .before .push-status .ensures))
+    (λ c. rw (← c .before .before .before .before .before .applied .ensures, c .before .before .enum-told3 .given .1, ← c .before .with-stopped2 .ensures, ← c .quiet7 .ensures))
+    (λ c. rw (← c .before .before .before .before .before .before .applied .ensures, c .before .before .before .action8 .given .1, ← c .before .with-other .ensures, ← c .quiet8 .ensures))
     returns-15
     returns-16
     returns-17
@@ -235,4 +188,4 @@ perform-spec =
     returns-19
     returns-20
     returns-21
-    returns-22)
+    (λ c. rw (← c .before .before .before .before .before .applied .ensures, c .before .before .action16 .given .1, ← c .refusal4 .ensures)))

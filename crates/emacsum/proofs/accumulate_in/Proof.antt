@@ -1,8 +1,8 @@
 use mathlib.Core.Path.{refl}
 use Rattle.manual.specs.Emac.{emacOf, accOf, withAcc}
 use borrow.Author.Needs.{needs}
-use Rattle.emac.proofs.mac.accumulate_in.Statement.{statement}
-use Rattle.emac.proofs.mac.accumulate_in.Tie as tie
+use Rattle.emacsum.proofs.accumulate_in.Statement.{statement}
+use Rattle.emacsum.proofs.accumulate_in.Tie as tie
 
 returns : tie.Need-returns
 unfolding withAcc accOf
