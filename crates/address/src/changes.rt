@@ -18,7 +18,7 @@ ghost use mathlib.Core.Path.{_≡_};
 ghost use Rattle.manual.specs.Reply.{faultReply};
 ghost use Rattle.manual.specs.Change.{done as doneOf, store as storeOf, acting as actingOf, enterAfter, enter as enterOf, illegal as illegalOf, privilege as privilegeOf, refuse as refuseOf, refused as refusedOf, notCarried, jump as jumpOf, push as pushOf, put as putOf};
 
-pub fn fault_reply(x: Fault) -> Reply
+fn fault_reply(x: Fault) -> Reply
     ensures { λ r. ⌜ r ≡ faultReply x ⌝ }
 {
     match x {

@@ -73,7 +73,7 @@ fn scaled(x: u32, scale: u32) -> u32
     }
 }
 
-pub fn index(g: &[u32; 16], w: u32) -> u32
+fn index(g: &[u32; 16], w: u32) -> u32
     ensures { λ r. ⌜ r ≡ indexOf (now (g .entry)) w ⌝ }
 {
     let r = general(g, w / 0x1000);
@@ -84,7 +84,7 @@ pub fn index(g: &[u32; 16], w: u32) -> u32
     }
 }
 
-pub fn indexed(g: &[u32; 16], base: u32, w: u32) -> u32
+fn indexed(g: &[u32; 16], base: u32, w: u32) -> u32
     ensures { λ r. ⌜ r ≡ indexedOf (now (g .entry)) base w ⌝ }
 {
     plus(plus(base, sign_extended(Size::Byte, w)), index(g, w))

@@ -1,9 +1,7 @@
 // The status register, and the states that a call takes.
 use manual::Cpu;
 use manual::Emac;
-use manual::Fault;
 use manual::Level;
-use manual::Reply;
 use word::flags::both;
 use word::flags::same;
 use word::registers::address;
@@ -12,17 +10,8 @@ use word::registers::with_other;
 use word::registers::with_sr;
 ghost use mathlib.Core.Path.{_≡_};
 ghost use Prim.Native.Nat.{_+_, _*_, _/_, _%_, _^_};
-ghost use Rattle.manual.specs.Reply.{faultReply};
 ghost use Rattle.manual.specs.Admitted.{status as statusOf, emacAdmitted, admitted as admittedOf};
 ghost use Rattle.manual.specs.Exceptions.{setSr, handling as handlingOf};
-
-pub fn fault_reply(x: Fault) -> Reply
-    ensures { λ r. ⌜ r ≡ faultReply x ⌝ }
-{
-    match x {
-        Fault::Outside => Reply::NotInside,
-    }
-}
 
 // The bits of 0xB71F.
 pub fn status(v: u32) -> u16
@@ -62,7 +51,7 @@ pub fn with_status(cpu: Cpu, v: u32) -> Cpu
     with_sr(cpu, sr)
 }
 
-pub fn handling(level: Level, sr: u16) -> u16
+pub(crate) fn handling(level: Level, sr: u16) -> u16
     ensures { λ r. ⌜ r ≡ handlingOf level sr ⌝ }
 {
     match level {

@@ -1,3 +1,3 @@
-pub mod mac;
-pub mod moves;
+mod mac;
+mod moves;
 pub mod rowsa;

@@ -117,7 +117,7 @@ fn mac_with_load(g: &[u32; 16], at: u32, sr: u16, mask: u32, mem: &[u8], op: u32
     }
 }
 
-pub fn mac(g: &[u32; 16], at: u32, sr: u16, mask: u32, mem: &[u8], op: u32) -> Change
+pub(crate) fn mac(g: &[u32; 16], at: u32, sr: u16, mask: u32, mem: &[u8], op: u32) -> Change
     ensures { λ e. ⌜ e ≡ macOf (now (g .entry)) at sr mask (now (mem .entry)) op ⌝ }
 {
     let w = match load(mem, plus(at, 2), Size::Word) {

@@ -25,7 +25,7 @@ ghost use mathlib.Core.Path.{_≡_};
 ghost use Prim.Native.Nat.{_+_, _*_, _/_, _%_, _<_};
 ghost use Rattle.instructions.specs.LineA.{macsrToCcr, toGeneral, copy as copyOf, setting as settingOf, toEmac, threeBits, moveThree, unassigned as unassignedOf};
 
-pub fn macsr_to_ccr(at: u32, macsr: u32) -> Change
+pub(crate) fn macsr_to_ccr(at: u32, macsr: u32) -> Change
     ensures { λ e. ⌜ e ≡ macsrToCcr at macsr ⌝ }
 {
     let next = plus(at, 2);
@@ -36,7 +36,7 @@ pub fn macsr_to_ccr(at: u32, macsr: u32) -> Change
     done(next, codes(false, n, z, v, false), none, none)
 }
 
-pub fn to_general(at: u32, sr: u16, op: u32, v: u32) -> Change
+pub(crate) fn to_general(at: u32, sr: u16, op: u32, v: u32) -> Change
     ensures { λ e. ⌜ e ≡ toGeneral at sr op v ⌝ }
 {
     let next = plus(at, 2);
@@ -45,7 +45,7 @@ pub fn to_general(at: u32, sr: u16, op: u32, v: u32) -> Change
     done(next, kept, none, write_general(op, v))
 }
 
-pub fn copy(at: u32, sr: u16, op: u32) -> Change
+pub(crate) fn copy(at: u32, sr: u16, op: u32) -> Change
     ensures { λ e. ⌜ e ≡ copyOf at sr op ⌝ }
 {
     acting(
@@ -67,7 +67,14 @@ fn setting(part: EmacPart, op: u32, v: u32) -> Action
     }
 }
 
-pub fn to_emac(part: EmacPart, g: &[u32; 16], at: u32, sr: u16, mem: &[u8], op: u32) -> Change
+pub(crate) fn to_emac(
+    part: EmacPart,
+    g: &[u32; 16],
+    at: u32,
+    sr: u16,
+    mem: &[u8],
+    op: u32,
+) -> Change
     ensures { λ e. ⌜ e ≡ toEmac part (now (g .entry)) at sr (now (mem .entry)) op ⌝ }
 {
     let from = source(g, mem, plus(at, 2), op, Size::Long);
@@ -88,7 +95,7 @@ fn three_bits(op: u32) -> u32
     if n == 0 { 0xFFFF_FFFF } else { n }
 }
 
-pub fn mov3q(g: &[u32; 16], at: u32, sr: u16, mem: &[u8], op: u32) -> Change
+pub(crate) fn mov3q(g: &[u32; 16], at: u32, sr: u16, mem: &[u8], op: u32) -> Change
     ensures { λ e. ⌜ e ≡ moveThree (now (g .entry)) at sr (now (mem .entry)) op ⌝ }
 {
     let target = operand(op / 8 % 8, op % 8);
@@ -101,7 +108,7 @@ pub fn mov3q(g: &[u32; 16], at: u32, sr: u16, mem: &[u8], op: u32) -> Change
     put(g, next, codes, first, no_write(), place, Size::Long, v)
 }
 
-pub fn unassigned(g: &[u32; 16], at: u32, sr: u16, mem: &[u8], op: u32) -> Change
+pub(crate) fn unassigned(g: &[u32; 16], at: u32, sr: u16, mem: &[u8], op: u32) -> Change
     ensures { λ e. ⌜ e ≡ unassignedOf (now (g .entry)) at sr (now (mem .entry)) op ⌝ }
 {
     let from = source(g, mem, plus(at, 2), op, Size::Long);

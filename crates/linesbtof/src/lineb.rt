@@ -62,7 +62,14 @@ fn cmpa(z: Size, g: &[u32; 16], at: u32, sr: u16, mem: &[u8], op: u32) -> Change
     done(next, codes, first, no_write())
 }
 
-pub fn logic_to_place(l: Logic, g: &[u32; 16], at: u32, sr: u16, mem: &[u8], op: u32) -> Change
+pub(crate) fn logic_to_place(
+    l: Logic,
+    g: &[u32; 16],
+    at: u32,
+    sr: u16,
+    mem: &[u8],
+    op: u32,
+) -> Change
     ensures { λ e. ⌜ e ≡ logicToPlace l (now (g .entry)) at sr (now (mem .entry)) op ⌝ }
 {
     let z = size_of(op / 64);

@@ -22,7 +22,7 @@ pub fn both(a: bool, b: bool) -> bool
     if a { b } else { false }
 }
 
-pub fn either(a: bool, b: bool) -> bool
+pub(crate) fn either(a: bool, b: bool) -> bool
     ensures { λ r. ⌜ r ≡ (a || b) ⌝ }
 {
     if a { true } else { b }
@@ -68,7 +68,7 @@ fn wrapped(total: u64, n: u64) -> u64
 }
 
 // V is told by the sign bits: two of one sign have a sum of the other.
-pub fn added(z: Size, s: u32, d: u32, x: bool) -> Sum
+fn added(z: Size, s: u32, d: u32, x: bool) -> Sum
     ensures { λ r. ⌜ r ≡ addedOf z s d x ⌝ }
 {
     let n = numbers(z);

@@ -13,7 +13,7 @@ pub fn bytes(z: Size) -> u32
     }
 }
 
-pub fn half(z: Size) -> u64
+pub(crate) fn half(z: Size) -> u64
     ensures { λ r. ⌜ r ≡ halfOf z ⌝ }
 {
     match z {
@@ -23,7 +23,7 @@ pub fn half(z: Size) -> u64
     }
 }
 
-pub fn numbers(z: Size) -> u64
+pub(crate) fn numbers(z: Size) -> u64
     ensures { λ r. ⌜ r ≡ numbersOf z ⌝ }
 {
     match z {
