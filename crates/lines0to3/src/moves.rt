@@ -24,6 +24,7 @@ use word::word::plus;
 use word::word::sign_extended;
 ghost use mathlib.Core.Path.{_≡_};
 ghost use Prim.Native.Nat.{_+_, _*_, _/_, _%_, _<_};
+ghost use Rattle.manual.specs.Registers.{written as writtenOf};
 ghost use Rattle.instructions.specs.Moves.{moveTo, move as moveOf, moveAddress};
 ghost use Rattle.lines0to3.specs.MoveLines.{moveSize, moveaRow, moveLine};
 
@@ -45,6 +46,15 @@ fn move_to(
     put(g, next, codes, first, moved(g, o, z), place, z, v)
 }
 
+// Apart, so that a MOVE to a register makes no room for the copy.
+fn written(g: &[u32; 16], w: Write) -> [u32; 16]
+    ensures { λ h. ⌜ h ≡ writtenOf w (now (g .entry)) ⌝ }
+{
+    let mut after = *g;
+    write(&mut after, w);
+    after
+}
+
 fn op_move(z: Size, g: &[u32; 16], at: u32, sr: u16, mem: &[u8], op: u32) -> Change
     ensures { λ e. ⌜ e ≡ moveOf z (now (g .entry)) at sr (now (mem .entry)) op ⌝ }
 {
@@ -62,8 +72,7 @@ fn op_move(z: Size, g: &[u32; 16], at: u32, sr: u16, mem: &[u8], op: u32) -> Cha
         let codes = move_codes(z, v, sr);
         done(next, codes, first, write_data(op / 512, merged(z, old, v)))
     } else {
-        let mut after = *g;
-        write(&mut after, first);
+        let after = written(g, first);
         let target = operand(mode, op / 512 % 8);
         move_to(z, &after, sr, mem, next, first, target, v)
     }

@@ -19,8 +19,8 @@ returns-2 c =
 returns-3 : tie.Need-returns-3
 unfolding moveOf
 returns-3 c =
-    let c1 = c .before in let c2 = c1 .before in let c3 = c2 .before in let c4 = c3 .before in let c5 = c4 .before in let c6 = c5 .before in let c7 = c6 .before in let c8 = c7 .before in let c9 = c8 .before in let c10 = c9 .before in let c11 = c10 .before in let c12 = c11 .before in
-    rw (← c12 .plus .ensures, ← c11 .source .ensures, c9 .got .given .1, ne-eqb _ _ (c6 .if1 .left), ← c3 .write .ensures, ← c2 .operand .ensures, ← c .move-to .ensures)
+    let c1 = c .before in let c2 = c1 .before in let c3 = c2 .before in let c4 = c3 .before in let c5 = c4 .before in let c6 = c5 .before in let c7 = c6 .before in let c8 = c7 .before in let c9 = c8 .before in let c10 = c9 .before in
+    rw (← c10 .plus .ensures, ← c9 .source .ensures, c7 .got .given .1, ne-eqb _ _ (c4 .if1 .left), ← c3 .written .ensures, ← c2 .operand .ensures, ← c .move-to .ensures)
 
 pub op-move-spec : {M : Type 1} → statement M
 op-move-spec =
