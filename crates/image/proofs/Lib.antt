@@ -1,2 +1,1 @@
 pub mod FileLaws
-pub mod TextLaws

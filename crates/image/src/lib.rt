@@ -1,6 +1,5 @@
-// The image file: from bytes to a machine, and from a machine to text.
+// The image file: from bytes to a machine.
 pub mod file;
-pub mod print;
 
 use manual::Cpu;
 use manual::Reply;
@@ -10,10 +9,4 @@ pub struct Loaded {
     pub reply: Reply,
     pub budget: u32,
     pub cpu: Cpu,
-}
-
-// A text of `len` bytes, and zeros after it.
-pub struct Text {
-    pub bytes: [u8; 256],
-    pub len: usize,
 }

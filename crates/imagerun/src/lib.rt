@@ -1,8 +1,8 @@
 // What the program `coreimage` does with the bytes that it was given.
-use image::Text;
 use image::file::read_image;
-use image::print::answer_text;
-use image::print::run_text;
+use imagetext::Text;
+use imagetext::print::answer_text;
+use imagetext::print::run_text;
 use machine::run::run;
 use replies::is_done;
 ghost use mathlib.Core.Path.{_≡_};
