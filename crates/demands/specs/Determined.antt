@@ -14,7 +14,7 @@ use Rattle.manual.specs.Block.{fresh, readBlock, storeBlock}
 use Rattle.manual.specs.Image.{loadImage, runText, answerLine, textOf}
 use Rattle.instructions.specs.Step.{step}
 use Rattle.instructions.specs.Run.{run}
-use Rattle.emaclent.specs.UnitCalls as unit
+use Rattle.emacunit.specs.UnitCalls as unit
 use Rattle.blockcalls.specs.Calls.{rteOn, exceptionOn, interruptOn}
 use Rattle.harness.specs.Calls.{stepOn, runOn}
 

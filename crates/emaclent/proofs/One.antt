@@ -34,10 +34,10 @@ use Rattle.manual.proofs.Emac as T
 use Rattle.manual.proofs.Emac.Laws as T′
 use Rattle.manual.proofs.Reply as R
 use Rattle.manual.proofs.Reply.Laws as R′
-use Rattle.emaclent.specs.declared.unit.EmacAnswer.{EmacAnswer}
-use Rattle.emaclent.specs.UnitCalls.{answer}
-use Rattle.emaclent.proofs.unit.EmacAnswer as U
-use Rattle.emaclent.proofs.unit.EmacAnswer.Laws as U′
+use Rattle.emacunit.specs.declared.EmacAnswer.{EmacAnswer}
+use Rattle.emacunit.specs.UnitCalls.{answer}
+use Rattle.emacunit.proofs.EmacAnswer as U
+use Rattle.emacunit.proofs.EmacAnswer.Laws as U′
 use Rattle.emaclent.proofs.Lent.{mach, said, number, replied, ref, changes, changed}
 
 -- the call, and the function by value that it calls

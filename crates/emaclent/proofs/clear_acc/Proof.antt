@@ -3,11 +3,11 @@
 use contract.Running.{givenOf, tables, tablesOf}
 use denote.Triple.Spec.{tripleOf}
 use denote.Triple.Table.{entered, cited}
-use Rattle.emaclent.specs.UnitCalls.{clearAccCall}
+use Rattle.emacunit.specs.UnitCalls.{clearAccCall}
 use Rattle.emaclent.proofs.One.{ByValue, meets}
-use Rattle.emaclent.proofs.unit.clear_acc.Symbol as g-def
-use Rattle.emaclent.proofs.unit.clear_acc.Symbol.{name as #g}
-use Rattle.emaclent.proofs.unit.clear_acc.Met as g-thm
+use Rattle.emacunit.proofs.clear_acc.Symbol as g-def
+use Rattle.emacunit.proofs.clear_acc.Symbol.{name as #g}
+use Rattle.emacunit.proofs.clear_acc.Met as g-thm
 use Rattle.emaclent.proofs.clear_acc.Key.{name as #f}
 use Rattle.emaclent.proofs.clear_acc as f
 use Rattle.emaclent.proofs.clear_acc.Statement as stated
@@ -19,4 +19,4 @@ clear-acc-spec 𝓤 H 𝓜 𝓖 𝓡 =
     entered 𝓤 H (tripleOf 𝓤 H (𝓖 .A) f.signature (f.spec 𝓤 H (𝓖 .A) (𝓜 .mem) (𝓡 .run)))
     (tables 𝓤 H 𝓜 𝓡 code.env .C) (tables 𝓤 H 𝓜 𝓡 code.env .Λ) #f code.function (code.unfolded 𝓤 H 𝓜 𝓡)
     (meets 𝓤 clearAccCall H (𝓖 .A) (givenOf 𝓤 H 𝓜 𝓖) #g (tablesOf 𝓤 H 𝓜 (tables 𝓤 H 𝓜 𝓡 code.env))
-    (cited 𝓤 H (ByValue 𝓤 clearAccCall H (𝓖 .A)) 𝓜 𝓡 code.env #g g-def.routine code.calls-emaclent·unit·clear-acc (g-thm.met 𝓤 H 𝓜 𝓖 𝓡)))
+    (cited 𝓤 H (ByValue 𝓤 clearAccCall H (𝓖 .A)) 𝓜 𝓡 code.env #g g-def.routine code.calls-emacunit·clear-acc (g-thm.met 𝓤 H 𝓜 𝓖 𝓡)))

@@ -3,11 +3,11 @@
 use contract.Running.{givenOf, tables, tablesOf}
 use denote.Triple.Spec.{tripleOf}
 use denote.Triple.Table.{entered, cited}
-use Rattle.emaclent.specs.UnitCalls.{setMacsrCall}
+use Rattle.emacunit.specs.UnitCalls.{setMacsrCall}
 use Rattle.emaclent.proofs.One.{ByValue, meets}
-use Rattle.emaclent.proofs.unit.set_macsr.Symbol as g-def
-use Rattle.emaclent.proofs.unit.set_macsr.Symbol.{name as #g}
-use Rattle.emaclent.proofs.unit.set_macsr.Met as g-thm
+use Rattle.emacunit.proofs.set_macsr.Symbol as g-def
+use Rattle.emacunit.proofs.set_macsr.Symbol.{name as #g}
+use Rattle.emacunit.proofs.set_macsr.Met as g-thm
 use Rattle.emaclent.proofs.set_macsr.Key.{name as #f}
 use Rattle.emaclent.proofs.set_macsr as f
 use Rattle.emaclent.proofs.set_macsr.Statement as stated
@@ -19,4 +19,4 @@ set-macsr-spec 𝓤 H 𝓜 𝓖 𝓡 =
     entered 𝓤 H (tripleOf 𝓤 H (𝓖 .A) f.signature (f.spec 𝓤 H (𝓖 .A) (𝓜 .mem) (𝓡 .run)))
     (tables 𝓤 H 𝓜 𝓡 code.env .C) (tables 𝓤 H 𝓜 𝓡 code.env .Λ) #f code.function (code.unfolded 𝓤 H 𝓜 𝓡)
     (meets 𝓤 setMacsrCall H (𝓖 .A) (givenOf 𝓤 H 𝓜 𝓖) #g (tablesOf 𝓤 H 𝓜 (tables 𝓤 H 𝓜 𝓡 code.env))
-    (cited 𝓤 H (ByValue 𝓤 setMacsrCall H (𝓖 .A)) 𝓜 𝓡 code.env #g g-def.routine code.calls-emaclent·unit·set-macsr (g-thm.met 𝓤 H 𝓜 𝓖 𝓡)))
+    (cited 𝓤 H (ByValue 𝓤 setMacsrCall H (𝓖 .A)) 𝓜 𝓡 code.env #g g-def.routine code.calls-emacunit·set-macsr (g-thm.met 𝓤 H 𝓜 𝓖 𝓡)))

@@ -5,7 +5,7 @@ use exceptions::status::emac_admitted;
 use manual::Emac;
 use manual::Reply;
 ghost use mathlib.Core.Path.{_≡_};
-ghost use Rattle.emaclent.specs.UnitCalls.{answer, accumulateCall, setMacsrCall, moveToCall, clearAccCall};
+ghost use Rattle.emacunit.specs.UnitCalls.{answer, accumulateCall, setMacsrCall, moveToCall, clearAccCall};
 
 const ACCUMULATORS: u32 = 4;
 

@@ -8,7 +8,7 @@ use Rattle.manual.specs.declared.Reply.{Reply}
 use Rattle.manual.specs.declared.Reply.the-variants.{Done, NotAdmitted, OutOfRange}
 use Rattle.manual.specs.Emac.{accumulate, setMacsr, moveTo, clearAcc}
 use Rattle.manual.specs.Admitted.{emacAdmitted}
-use Rattle.emaclent.specs.declared.unit.EmacAnswer.{EmacAnswer}
+use Rattle.emacunit.specs.declared.EmacAnswer.{EmacAnswer}
 
 -- a reply and the unit that goes with it
 abbrev pub answer : Reply → Emac → EmacAnswer

@@ -1,8 +1,8 @@
 use borrow.Author.Tests.{not-true, not-false}
-use Rattle.emaclent.specs.UnitCalls.{setMacsrCall}
+use Rattle.emacunit.specs.UnitCalls.{setMacsrCall}
 use borrow.Author.Needs.{needs}
-use Rattle.emaclent.proofs.unit.set_macsr.Statement.{statement}
-use Rattle.emaclent.proofs.unit.set_macsr.Tie as tie
+use Rattle.emacunit.proofs.set_macsr.Statement.{statement}
+use Rattle.emacunit.proofs.set_macsr.Tie as tie
 
 returns : tie.Need-returns
 unfolding setMacsrCall

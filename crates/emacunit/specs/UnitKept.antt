@@ -7,8 +7,8 @@ use Rattle.manual.specs.declared.Emac.{Emac}
 use Rattle.manual.specs.Emac.{accumulate, setMacsr, moveTo, clearAcc}
 use Rattle.manual.specs.Admitted.{emacAdmitted}
 use Rattle.emac.specs.EmacKept.{accumulate-kept, set-macsr-kept, move-to-kept, clear-acc-kept}
-use Rattle.emaclent.specs.declared.unit.EmacAnswer.{EmacAnswer}
-use Rattle.emaclent.specs.UnitCalls.{changed, accChanged, accumulateCall, setMacsrCall, moveToCall, clearAccCall}
+use Rattle.emacunit.specs.declared.EmacAnswer.{EmacAnswer}
+use Rattle.emacunit.specs.UnitCalls.{changed, accChanged, accumulateCall, setMacsrCall, moveToCall, clearAccCall}
 
 either : (b : Bool) (x y : EmacAnswer) → emacAdmitted (x .emac) ≡ true → emacAdmitted (y .emac) ≡ true → emacAdmitted (cond b x y .emac) ≡ true
 either true x y p q = p

@@ -1,6 +1,6 @@
 use mathlib.Core.Path.{refl}
-use Rattle.emaclent.proofs.unit.refused.Statement.{statement}
-use Rattle.emaclent.proofs.unit.refused.Tie as tie
+use Rattle.emacunit.proofs.refused.Statement.{statement}
+use Rattle.emacunit.proofs.refused.Tie as tie
 
 returns : tie.Need-returns
 returns c = refl
