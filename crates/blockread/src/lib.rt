@@ -3,7 +3,6 @@ mod number;
 
 use emac::block::block_in_range;
 use emac::flags::mode_of;
-use exceptions::status::admitted;
 use freshstate::fresh;
 use manual::Answer;
 use manual::Cpu;
@@ -13,6 +12,7 @@ use number::byte_at;
 use number::long_at;
 use number::read_number;
 use number::word_at;
+use statusregister::admitted;
 use word::flags::both;
 ghost use mathlib.Core.Path.{_≡_};
 ghost use lib.ListN.{length};

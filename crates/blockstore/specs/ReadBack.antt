@@ -18,7 +18,7 @@ use Rattle.manual.specs.Emac.{modeOf, emacOf, accOf, blockNumber, blockInRange}
 use Rattle.manual.specs.Admitted.{emacAdmitted, admitted}
 use Rattle.manual.specs.Block.{longsAt, emacAt, stateAt, numbersFit, readBlock, headed, withLongs, withControls, withAccs, withUnit, blockOf}
 use Rattle.memory.specs.MemoryLaws.{length-store, read-other, read-same}
-use Rattle.exceptions.specs.AdmittedLaws.{admitted-emac}
+use Rattle.statusregister.specs.AdmittedLaws.{admitted-emac}
 use Rattle.emac.specs.EmacKept.{acc-small, macsr-small}
 use Rattle.emac.specs.BlockLaws.{pattern-block, block-below, block-admitted}
 

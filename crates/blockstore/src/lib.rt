@@ -2,10 +2,10 @@
 use emac::accumulators::acc_of;
 use emac::block::block_number;
 use emac::flags::mode_of;
-use exceptions::status::admitted;
 use manual::Cpu;
 use manual::Emac;
 use manual::Reply;
+use statusregister::admitted;
 use word::flags::bit;
 ghost use mathlib.Core.Path.{_≡_};
 ghost use Prim.Native.Nat.{_+_, _≤_};

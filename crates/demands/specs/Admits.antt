@@ -37,8 +37,9 @@ use Rattle.instructions.specs.Step.{execute, step}
 use Rattle.instructions.specs.Run.{RunOutcome, ended, afterOne, steps, run}
 use Rattle.word.specs.TestLaws.{by-lt}
 use Rattle.word.specs.SignedLaws.{signed-pos, signed-neg}
-use Rattle.exceptions.specs.MaskLaws.{status-mask}
-use Rattle.exceptions.specs.AdmittedLaws.{admitted-status, admitted-emac, registers-admitted, address-admitted, other-admitted, stopped-admitted, emac-admitted, applied-admitted, set-sr-admitted, refusal-admitted, either-outcome, entered-admitted, left-admitted}
+use Rattle.statusregister.specs.MaskLaws.{status-mask}
+use Rattle.statusregister.specs.AdmittedLaws.{admitted-status, admitted-emac, registers-admitted, address-admitted, other-admitted, stopped-admitted, emac-admitted, applied-admitted, set-sr-admitted}
+use Rattle.exceptions.specs.EntryAdmitted.{refusal-admitted, either-outcome, entered-admitted, left-admitted}
 use Rattle.emac.specs.EmacKept as emac
 use Rattle.emaccalls.specs.CallsKept as calls
 

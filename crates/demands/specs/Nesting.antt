@@ -24,7 +24,8 @@ use Rattle.manual.specs.Admitted.{status, admitted, tooLong}
 use Rattle.manual.specs.Exceptions.{supervisor, twoStacks, handling, pcPlace, framePlace, framed, handlerState}
 use Rattle.word.specs.WordLaws.{minus-below}
 use Rattle.memory.specs.MemoryLaws.{byte-store, length-store, value-lt}
-use Rattle.exceptions.specs.AdmittedLaws.{admitted-status, pc-admitted, entered-admitted, left-admitted}
+use Rattle.statusregister.specs.AdmittedLaws.{admitted-status, pc-admitted}
+use Rattle.exceptions.specs.EntryAdmitted.{entered-admitted, left-admitted}
 use Rattle.demands.specs.EntryLaws as laws
 use Rattle.demands.specs.ValueLaws as values
 use Rattle.demands.specs.Undone.{Values, Enters, Returns, AsLeft, Back, Undoes, Way, way, WayBack, way-back, swapsIn, spIn, turned, Left, way-left, Named, named, undoneState, sp-long, as-long, left-undone, undone-back, entry-is-undone}

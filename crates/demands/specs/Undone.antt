@@ -27,7 +27,7 @@ use Rattle.manual.specs.Exceptions.{supervisor, twoStacks, setSr, handling, fra
 use Rattle.instructions.specs.Step.{step}
 use Rattle.word.specs.WordLaws.{plus-below}
 use Rattle.memory.specs.MemoryLaws.{length-store}
-use Rattle.exceptions.specs.AdmittedLaws.{admitted-status}
+use Rattle.statusregister.specs.AdmittedLaws.{admitted-status}
 use Rattle.demands.specs.EntryLaws as laws
 use Rattle.demands.specs.StepLaws as steps
 

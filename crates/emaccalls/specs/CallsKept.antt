@@ -10,7 +10,7 @@ use Rattle.manual.specs.declared.Answer.{Answer}
 use Rattle.manual.specs.Emac.{has, setMacsr}
 use Rattle.manual.specs.Admitted.{emacAdmitted, admitted}
 use Rattle.manual.specs.EmacCalls.{doneWith, accChanged, accSetCall, setAccPhysCall, setMacsrCall}
-use Rattle.exceptions.specs.AdmittedLaws.{admitted-emac, emac-admitted}
+use Rattle.statusregister.specs.AdmittedLaws.{admitted-emac, emac-admitted}
 use Rattle.emac.specs.EmacKept.{macsr-small, pattern-below, with-acc-kept, set-macsr-kept}
 
 either : (b : Bool) (x y : Answer) → admitted (x .cpu) ≡ true → admitted (y .cpu) ≡ true → admitted (cond b x y .cpu) ≡ true

@@ -1,9 +1,9 @@
 // The calls on a unit by value, refusals first.
 use emac::accumulators;
 use emac::mac;
-use exceptions::status::emac_admitted;
 use manual::Emac;
 use manual::Reply;
+use statusregister::emac_admitted;
 ghost use mathlib.Core.Path.{_≡_};
 ghost use Rattle.emacunit.specs.UnitCalls.{answer, accumulateCall, setMacsrCall, moveToCall, clearAccCall};
 

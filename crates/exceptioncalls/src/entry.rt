@@ -2,11 +2,11 @@
 use exceptions::entry::entered;
 use exceptions::entry::left;
 use exceptions::entry::refusal;
-use exceptions::status::admitted;
 use manual::Cpu;
 use manual::Level;
 use manual::Reply;
 use manual::Stepped;
+use statusregister::admitted;
 ghost use mathlib.Core.Path.{_≡_};
 ghost use Rattle.manual.specs.Reply.{outcome};
 ghost use Rattle.manual.specs.Exceptions.{levelTaken, masked as maskedOf, exception as exceptionOf, interrupt as interruptOf, rte as rteOf};

@@ -1,6 +1,4 @@
 // Entry of an exception, and return from it.
-use super::status::handling;
-use super::status::with_status;
 use manual::Cpu;
 use manual::Level;
 use manual::Reply;
@@ -8,6 +6,8 @@ use manual::Size;
 use manual::Stepped;
 use memory::long_at;
 use memory::store;
+use statusregister::handling;
+use statusregister::with_status;
 use word::registers::address;
 use word::registers::with_address;
 use word::registers::with_pc;

@@ -1,2 +1,1 @@
 pub mod entry;
-pub mod status;

@@ -2,7 +2,6 @@
 use super::Progress;
 use emac::mac::accumulate_in;
 use exceptions::entry::refusal;
-use exceptions::status::admitted;
 use execute::execute;
 use manual::Action;
 use manual::Change;
@@ -13,6 +12,7 @@ use manual::Reply;
 use manual::Stepped;
 use memory::store;
 use perform::perform;
+use statusregister::admitted;
 use word::registers::coded;
 use word::registers::with_parts;
 use word::registers::write;

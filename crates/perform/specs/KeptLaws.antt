@@ -20,7 +20,8 @@ use Rattle.manual.specs.Admitted.{admitted, emacAdmitted}
 use Rattle.manual.specs.Exceptions.{setSr}
 use Rattle.manual.specs.Emac.{accumulate, moveTo, setExt, setMacsr, setMask, copyAcc, clearAcc}
 use Rattle.instructions.specs.Perform.{statusPushed, act, perform}
-use Rattle.exceptions.specs.AdmittedLaws.{admitted-emac, registers-admitted, address-admitted, other-admitted, stopped-admitted, emac-admitted, applied-admitted, set-sr-admitted, refusal-admitted, either-outcome, entered-admitted, left-admitted}
+use Rattle.statusregister.specs.AdmittedLaws.{admitted-emac, registers-admitted, address-admitted, other-admitted, stopped-admitted, emac-admitted, applied-admitted, set-sr-admitted}
+use Rattle.exceptions.specs.EntryAdmitted.{refusal-admitted, either-outcome, entered-admitted, left-admitted}
 use Rattle.emac.specs.EmacKept.{accumulate-kept, set-macsr-kept, move-to-kept, copy-acc-kept, clear-acc-kept, set-ext-kept, set-mask-kept}
 
 module _ (given s : Cpu) (m : List ℕ) (k : admitted given ≡ true) (h : admitted s ≡ true) where

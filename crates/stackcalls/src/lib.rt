@@ -1,6 +1,5 @@
 // The calls that push a long on the stack and pop it, refusals first.
 use exceptions::entry::refusal;
-use exceptions::status::admitted;
 use manual::Cpu;
 use manual::Popped;
 use manual::Reply;
@@ -8,6 +7,7 @@ use manual::Size;
 use manual::Stepped;
 use memory::long_at;
 use memory::store;
+use statusregister::admitted;
 use word::registers::address;
 use word::registers::with_address;
 use word::word::minus;

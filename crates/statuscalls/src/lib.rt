@@ -1,10 +1,10 @@
 // The calls that set the status register and tell its fields, refusals first.
-use exceptions::status::admitted;
-use exceptions::status::with_status;
 use manual::Answer;
 use manual::Cpu;
 use manual::Reply;
 use manual::Told;
+use statusregister::admitted;
+use statusregister::with_status;
 ghost use mathlib.Core.Path.{_≡_};
 ghost use Rattle.manual.specs.Exceptions.{setSrCall, told as toldOf, ipl as iplOf, supervisorCall};
 

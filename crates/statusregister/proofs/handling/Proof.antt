@@ -1,8 +1,8 @@
--- `exceptions::status::handling` meets its contract. Assumes nothing.
+-- `statusregister::handling` meets its contract. Assumes nothing.
 use Rattle.manual.specs.Exceptions.{handling as handlingOf}
 use borrow.Author.Needs.{needs}
-use Rattle.exceptions.proofs.status.handling.Statement.{statement}
-use Rattle.exceptions.proofs.status.handling.Tie as tie
+use Rattle.statusregister.proofs.handling.Statement.{statement}
+use Rattle.statusregister.proofs.handling.Tie as tie
 
 returns : tie.Need-returns
 unfolding handlingOf

@@ -51,7 +51,7 @@ pub fn with_status(cpu: Cpu, v: u32) -> Cpu
     with_sr(cpu, sr)
 }
 
-pub(crate) fn handling(level: Level, sr: u16) -> u16
+pub fn handling(level: Level, sr: u16) -> u16
     ensures { λ r. ⌜ r ≡ handlingOf level sr ⌝ }
 {
     match level {

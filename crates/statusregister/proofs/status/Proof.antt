@@ -1,8 +1,8 @@
--- `exceptions::status::status` meets its contract. Assumes nothing.
+-- `statusregister::status` meets its contract. Assumes nothing.
 use Rattle.manual.specs.Admitted.{status as statusOf}
 use borrow.Author.Needs.{needs}
-use Rattle.exceptions.proofs.status.status.Statement.{statement}
-use Rattle.exceptions.proofs.status.status.Tie as tie
+use Rattle.statusregister.proofs.status.Statement.{statement}
+use Rattle.statusregister.proofs.status.Tie as tie
 
 returns : tie.Need-returns
 unfolding statusOf

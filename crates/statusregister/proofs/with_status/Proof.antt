@@ -1,8 +1,8 @@
--- `exceptions::status::with_status` meets its contract. Assumes nothing.
+-- `statusregister::with_status` meets its contract. Assumes nothing.
 use Rattle.manual.specs.Exceptions.{setSr as setSrOf}
 use borrow.Author.Needs.{needs}
-use Rattle.exceptions.proofs.status.with_status.Statement.{statement}
-use Rattle.exceptions.proofs.status.with_status.Tie as tie
+use Rattle.statusregister.proofs.with_status.Statement.{statement}
+use Rattle.statusregister.proofs.with_status.Tie as tie
 
 returns : tie.Need-returns
 unfolding setSrOf

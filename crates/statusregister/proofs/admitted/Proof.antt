@@ -1,8 +1,8 @@
--- `exceptions::status::admitted` meets its contract. Assumes nothing.
+-- `statusregister::admitted` meets its contract. Assumes nothing.
 use Rattle.manual.specs.Admitted.{admitted as admittedOf}
 use borrow.Author.Needs.{needs}
-use Rattle.exceptions.proofs.status.admitted.Statement.{statement}
-use Rattle.exceptions.proofs.status.admitted.Tie as tie
+use Rattle.statusregister.proofs.admitted.Statement.{statement}
+use Rattle.statusregister.proofs.admitted.Tie as tie
 
 returns : tie.Need-returns
 unfolding admittedOf

@@ -1,9 +1,9 @@
--- `exceptions::status::emac_admitted` meets its contract. Assumes nothing.
+-- `statusregister::emac_admitted` meets its contract. Assumes nothing.
 use Rattle.manual.specs.Admitted.{emacAdmitted as emacAdmittedOf}
 use Rattle.manual.specs.Emac.{accOf as accOfOf}
 use borrow.Author.Needs.{needs}
-use Rattle.exceptions.proofs.status.emac_admitted.Statement.{statement}
-use Rattle.exceptions.proofs.status.emac_admitted.Tie as tie
+use Rattle.statusregister.proofs.emac_admitted.Statement.{statement}
+use Rattle.statusregister.proofs.emac_admitted.Tie as tie
 
 returns : tie.Need-returns
 unfolding emacAdmittedOf accOfOf
