@@ -3,65 +3,28 @@
 -- A step that gets as far as its word has fetched it at its program counter; every step that is done does. Of the rows that fit the
 -- word, one has the most fixed bits, and only one; any two rows that fit it are nested, one having all the other's fixed bits and more.
 -- What the step does, be it done or refused, is what that row's instruction says, and the row's line is the word's. Assumes nothing.
-use Prim.Native.Nat.{ℕ, _+_, _/_, _%_, _≤_, _<_}
-use mathlib.Core.Path.{_≡_, refl, ap, _∙_}
+use Prim.Native.Nat.{ℕ, _+_, _/_, _≤_, _<_}
+use mathlib.Core.Path.{_≡_, refl, sym, ap, _∙_}
 use mathlib.Core.Bool.{false}
-use mathlib.Core.List.{List, [], _∷_}
-use native.Mathlib.Omega.{arith}
+use mathlib.Core.List.{List}
 use lib.Bits.{bitAnd}
 use lib.ListN.{length, getD}
 use borrow.Author.Tests.{leb-true, le-leb, le-ltb}
 use Rattle.manual.specs.declared.Cpu.{Cpu}
-use Rattle.manual.specs.declared.Emac.{Emac}
 use Rattle.manual.specs.declared.Change.{Change}
 use Rattle.manual.specs.declared.Size.the-variants.{Word}
 use Rattle.manual.specs.declared.Reply.the-variants.{Done}
 use Rattle.manual.specs.Memory.{numberAt}
 use Rattle.manual.specs.Reply.{numberOf}
-use Rattle.manual.specs.Change.{notCarried}
 use Rattle.instructions.specs.Rows.{rowCount, value, mask, fixedBits, IsRow, rowOf}
-use Rattle.instructions.specs.Line0.{line0}
-use Rattle.instructions.specs.Moves.{line1, line2, line3}
-use Rattle.instructions.specs.Line4.{line4}
-use Rattle.instructions.specs.Line5.{line5}
-use Rattle.instructions.specs.Line6.{line6}
-use Rattle.instructions.specs.Line7.{line7}
-use Rattle.instructions.specs.Line9D.{line9, lineD}
-use Rattle.instructions.specs.LineA.{lineA}
-use Rattle.instructions.specs.LineB.{lineB}
-use Rattle.instructions.specs.LineC.{lineC}
-use Rattle.instructions.specs.LineE.{lineE}
-use Rattle.instructions.specs.LineF.{lineF}
 use Rattle.instructions.specs.Perform.{perform}
-use Rattle.instructions.specs.Step.{instruction, step}
+use Rattle.instructions.specs.Step.{ofRow, step}
 use Rattle.memory.specs.MemoryLaws.{value-lt}
-use Rattle.rows.specs.RowLaws.{rowOf-lt, rowOf-fits, rowOf-is, unique, nested-rows, in-line}
+use Rattle.rows.specs.RowLaws.{rowOf-lt, rowOf-fits, rowOf-is, unique, nested-rows, in-line, of-row}
 use Rattle.demands.specs.StepLaws as steps
 use Rattle.demands.specs.Accesses.{SomeOutside, accesses}
 use Rattle.demands.specs.Exact.{Ready, NotCarriedWord}
 use Rattle.demands.specs.ExactLaws.{reply-0}
-
--- the instruction of a row, of the line that the row's value has: what the word op at `at` changes
-unfoldable pub ofRow : ℕ → List ℕ → ℕ → ℕ → ℕ → Emac → List ℕ → ℕ → Change
-ofRow row g at sr other e m op =
-    getD
-    (line0 row g at sr m op ∷
-    line1 row g at sr m op ∷
-    line2 row g at sr m op ∷
-    line3 row g at sr m op ∷
-    line4 row g at sr other m op ∷
-    line5 row g at sr m op ∷
-    line6 row g at sr m op ∷
-    line7 row g at sr m op ∷
-    notCarried ∷
-    line9 row g at sr m op ∷
-    lineA row g at sr e m op ∷
-    lineB row g at sr m op ∷
-    lineC row g at sr m op ∷
-    lineD row g at sr m op ∷
-    lineE row g at sr op ∷
-    [])
-    (value row / 0x1000) (lineF row g at sr m op)
 
 -- the step from s and m, at the word op, followed the row r
 pub record Followed (s : Cpu) (m : List ℕ) (op r : ℕ) : Type 0 where
@@ -89,13 +52,6 @@ pub record StepsFollowRows : Type 0 where
 
 -- ---- the proof
 
-of-row : (g : List ℕ) (at sr other : ℕ) (e : Emac) (m : List ℕ) (op : ℕ) → value (rowOf op) / 0x1000 ≡ op / 0x1000 → op < 0x1_0000
-    → instruction g at sr other e m op ≡ ofRow (rowOf op) g at sr other e m op
-unfolding instruction ofRow
-of-row g at sr other e m op h small =
-    let l : op / 0x1000 % 16 ≡ value (rowOf op) / 0x1000 = omega arith in
-    rw l
-
 follows : (s : Cpu) (m : List ℕ) → ((j : ℕ) → getD m j 0 < 256) → Fetches s m → Followed s m (numberAt m (s .pc) Word) (rowOf (numberAt m (s .pc) Word))
 follows s m all f =
     let op : ℕ = numberAt m (s .pc) Word in
@@ -112,7 +68,7 @@ follows s m all f =
       line = l;
       performed = steps.step-on s m (le-ltb _ _ (f .ready .0)) (f .ready .1) (f .awake)
           ∙ ap (λ (c : Change). perform s c m)
-          (steps.fetched (s .r) (s .pc) (s .sr) (s .other) (s .emac) m op (le-leb _ _ (f .in-memory)) refl ∙ of-row (s .r) (s .pc) (s .sr) (s .other) (s .emac) m op l small);
+          (steps.fetched (s .r) (s .pc) (s .sr) (s .other) (s .emac) m op (le-leb _ _ (f .in-memory)) refl ∙ sym (of-row (s .r) (s .pc) (s .sr) (s .other) (s .emac) m op));
     }
 
 done-fetches : (s : Cpu) (m : List ℕ) → ((j : ℕ) → getD m j 0 < 256) → step s m .stepped .reply ≡ Done → Fetches s m

@@ -12,7 +12,7 @@ use Rattle.manual.specs.Memory.{load}
 use Rattle.manual.specs.Reply.{Outcome, unchanged}
 use Rattle.manual.specs.Admitted.{checked}
 use Rattle.manual.specs.Change.{reading, notCarried}
-use Rattle.instructions.specs.Rows.{rowOf}
+use Rattle.instructions.specs.Rows.{value, rowOf}
 use Rattle.instructions.specs.Line0.{line0}
 use Rattle.instructions.specs.Moves.{line1, line2, line3}
 use Rattle.instructions.specs.Line4.{line4}
@@ -27,10 +27,9 @@ use Rattle.instructions.specs.LineE.{lineE}
 use Rattle.instructions.specs.LineF.{lineF}
 use Rattle.instructions.specs.Perform.{perform}
 
--- what the word op at `at` changes: its line is the top four bits, and its row says which instruction of the line it is
-unfoldable pub instruction : List ℕ → ℕ → ℕ → ℕ → Emac → List ℕ → ℕ → Change
-instruction g at sr other e m op =
-    let row : ℕ = rowOf op in
+-- what the word op at `at` changes, taken for the instruction of a row of a line
+abbrev pub inLine : ℕ → ℕ → List ℕ → ℕ → ℕ → ℕ → Emac → List ℕ → ℕ → Change
+inLine line row g at sr other e m op =
     getD
     (line0 row g at sr m op ∷
     line1 row g at sr m op ∷
@@ -48,7 +47,15 @@ instruction g at sr other e m op =
     lineD row g at sr m op ∷
     lineE row g at sr op ∷
     [])
-    (op / 0x1000 % 16) (lineF row g at sr m op)
+    line (lineF row g at sr m op)
+
+-- what it changes: its line is the top four bits, and its row says which instruction of the line it is
+unfoldable pub instruction : List ℕ → ℕ → ℕ → ℕ → Emac → List ℕ → ℕ → Change
+instruction g at sr other e m op = inLine (op / 0x1000 % 16) (rowOf op) g at sr other e m op
+
+-- the instruction of a row, of the line that the row's value has
+unfoldable pub ofRow : ℕ → List ℕ → ℕ → ℕ → ℕ → Emac → List ℕ → ℕ → Change
+ofRow row g at sr other e m op = inLine (value row / 0x1000) row g at sr other e m op
 
 unfoldable pub execute : List ℕ → ℕ → ℕ → ℕ → Emac → List ℕ → Change
 execute g at sr other e m = reading (load m at Word) λ op. instruction g at sr other e m op

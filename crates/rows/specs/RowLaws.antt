@@ -11,7 +11,9 @@ use borrow.Author.Tests.{le-leb, lt-ltb}
 use lib.Bits.{bitAnd, and-shr, and-mask}
 use lib.Dec.{T, eqb, ltb, leb, eqb→eq, ltb→lt, leb→le}
 use lib.ListN.{getD, drop, List·getD-eq-default}
+use Rattle.manual.specs.declared.Emac.{Emac}
 use Rattle.instructions.specs.Rows.{values, masks, value, mask, fixedBits, rowCount, Fits, IsRow, firstFit, rowOf}
+use Rattle.instructions.specs.Step.{instruction, ofRow}
 use Rattle.rows.specs.TableLaws.{allBelow, keep, below, allApart, nested, found, unfit, someWhole, some-later, some-fits}
 
 -- the first row of each line, the four top bits of a word; past the last line, past the last row
@@ -160,6 +162,12 @@ row-line op =
     let h : w < 0x1_0000 = mod-lt op (zero-lt-suc _) in
     let q : w / 0x1000 ≡ op / 0x1000 % 16 = omega arith in
     ap (λ (r : ℕ). value r / 0x1000) (sym (rowOf-mod op)) ∙ in-line w (rowOf w) h (rowOf-lt w) (rowOf-fits w h) .0 ∙ q
+
+-- so what a word changes is what the instruction of its row changes
+pub of-row : (g : List ℕ) (at sr other : ℕ) (e : Emac) (m : List ℕ) (op : ℕ)
+    → ofRow (rowOf op) g at sr other e m op ≡ instruction g at sr other e m op
+unfolding ofRow instruction
+of-row g at sr other e m op = rw (row-line op)
 
 where-both : (a b c : Bool) → a ≡ true → b ≡ true → T (elim a [ true ↦ elim b [ true ↦ c | false ↦ true ] | false ↦ true ]) → T c
 where-both true true c p q t = t
