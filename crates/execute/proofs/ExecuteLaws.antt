@@ -1,36 +1,24 @@
--- The line of a word, as its row tells it. Assumes nothing.
-use Prim.Native.Nat.{ℕ, zero, suc, _+_, _/_, _%_, _≤_, _<_}
-use mathlib.Core.Path.{_≡_, refl, sym, ap, _∙_}
+-- The instruction of a row is that of the line among whose rows it stands. Assumes nothing.
+use Prim.Native.Nat.{ℕ, _+_, _≤_, _<_}
+use mathlib.Core.Path.{_≡_}
 use mathlib.Core.List.{List}
+use mathlib.Core.Logic.{_⊎_, inl, inr}
 use native.Mathlib.Omega.{arith}
 use Rattle.manual.specs.declared.Emac.{Emac}
-use Rattle.instructions.specs.Rows.{value, rowOf}
-use Rattle.instructions.specs.Step.{instruction}
-use Rattle.lines0to3.specs.MoveLines.{moveLine}
-use Rattle.rows.specs.RowLaws.{row-line}
-use Rattle.word.specs.TestLaws.{NoneOf, past-from}
+use Rattle.manual.specs.declared.Change.{Change}
+use Rattle.instructions.specs.Rows.{rowCount}
+use Rattle.instructions.specs.Line0.{line0}
+use Rattle.instructions.specs.Step.{inLine, ofRow}
+use Rattle.rows.specs.RowLaws.{firstOf, line-at, past-all}
 
-pub line-is : (op row line k : ℕ) → row ≡ rowOf op → line ≡ value row / 0x1000 → line ≡ k → op / 0x1000 % 16 ≡ k
-line-is op row line k p q r = sym (row-line op) ∙ ap (λ (n : ℕ). value n / 0x1000) (sym p) ∙ sym q ∙ r
+module _ (row : ℕ) (g : List ℕ) (at sr other : ℕ) (e : Emac) (m : List ℕ) (op : ℕ) (c : Change) where
+  pub of-line : (line : ℕ) → line < 16 → firstOf line ≤ row → row < firstOf (line + 1) → row < rowCount
+      → c ≡ inLine line row g at sr other e m op → c ≡ ofRow row g at sr other e m op
+  unfolding ofRow
+  of-line line k l h r q = rw (← line-at row line r k l h) q
 
--- lines 1, 2 and 3 as one
-pub moves-are : (g : List ℕ) (at sr other : ℕ) (e : Emac) (m : List ℕ) (op line : ℕ) → line < 4 → (line ≡ 0 → ⊥) → op / 0x1000 % 16 ≡ line
-    → moveLine line (rowOf op) g at sr m op ≡ instruction g at sr other e m op
-unfolding moveLine instruction
-moves-are g at sr other e m op zero l h q = absurd (h refl)
-moves-are g at sr other e m op (suc zero) l h q = rw q
-moves-are g at sr other e m op (suc (suc zero)) l h q = rw q
-moves-are g at sr other e m op (suc (suc (suc zero))) l h q = rw q
-moves-are g at sr other e m op (suc (suc (suc (suc n)))) l h q = absurd (omega (arith, l))
-
--- what the default of a `match` says whose arms are 0 and each from 4 on
-abbrev NoLine : ℕ → ℕ → Type 0
-NoLine zero line = Unit {0} × (line ≡ 0 → ⊥)
-NoLine (suc n) line = NoLine n line × (line ≡ 4 + n → ⊥)
-
-none-of : (n line : ℕ) → NoLine n line → NoneOf 4 n line
-none-of zero line h = tt
-none-of (suc n) line h = (none-of n line (h .0), h .1)
-
-pub past-lines : (line : ℕ) → 4 ≤ line → NoLine 11 line → 15 ≤ line
-past-lines line l h = past-from 4 11 line l (none-of 11 line h)
+  -- what is no row has line 0's value
+  pub of-line-0 : (row < 14) ⊎ (rowCount ≤ row) → c ≡ line0 row g at sr m op → c ≡ ofRow row g at sr other e m op
+  unfolding ofRow
+  of-line-0 (inl l) q = of-line 0 (omega arith) (omega arith) l (omega arith) q
+  of-line-0 (inr l) q = rw (← past-all row l) q

@@ -1,6 +1,5 @@
-// Which instruction a word is.
+// What a word changes, taken for the instruction of a row.
 use address::changes::not_carried;
-use address::changes::refused;
 use line4::rows4::line4;
 use linea::rowsa::linea;
 use lines0to3::line0::line0;
@@ -15,17 +14,14 @@ use linesbtof::linec::linec;
 use linesbtof::linee::linee;
 use linesbtof::linef::linef;
 use manual::Change;
-use manual::Got;
-use manual::Size;
-use memory::load;
-use rows::line_of;
-use rows::row_of;
 ghost use mathlib.Core.Path.{_≡_};
-ghost use Prim.Native.Nat.{_+_, _*_, _/_, _%_};
 ghost use Rattle.manual.specs.Emac.{emacOf};
-ghost use Rattle.instructions.specs.Step.{instruction as instructionOf, execute as executeOf};
+ghost use Rattle.instructions.specs.Step.{ofRow};
 
-fn instruction(
+// The rows stand line by line, so a line's rows are a range. What is no row goes where line 0's go, as in the definition, in which it
+// has the value 0.
+pub fn instruction(
+    row: u8,
     g: &[u32; 16],
     at: u32,
     sr: u16,
@@ -36,42 +32,24 @@ fn instruction(
     mem: &[u8],
     op: u32,
 ) -> Change
-    ensures { λ e. ⌜ e ≡ instructionOf (now (g .entry)) at sr other (emacOf macsr mask (now (acc .entry))) (now (mem .entry)) op ⌝ }
+    ensures { λ e. ⌜ e ≡ ofRow row (now (g .entry)) at sr other (emacOf macsr mask (now (acc .entry))) (now (mem .entry)) op ⌝ }
 {
-    let row = row_of(op);
-    let line = line_of(row);
-    match line {
-        0 => line0(row, g, at, sr, mem, op),
-        1 | 2 | 3 => move_line(line, row, g, at, sr, mem, op),
-        4 => line4(row, g, at, sr, other, mem, op),
-        5 => line5(row, g, at, sr, mem, op),
-        6 => line6(row, g, at, sr, mem, op),
-        7 => line7(row, g, at, sr, mem, op),
-        8 => not_carried(),
-        9 => line9(row, g, at, sr, mem, op),
-        10 => linea(row, g, at, sr, macsr, mask, acc, mem, op),
-        11 => lineb(row, g, at, sr, mem, op),
-        12 => linec(row, g, at, sr, mem, op),
-        13 => lined(row, g, at, sr, mem, op),
-        14 => linee(row, g, at, sr, op),
-        _ => linef(row, g, at, sr, mem, op),
-    }
-}
-
-pub fn execute(
-    g: &[u32; 16],
-    at: u32,
-    sr: u16,
-    other: u32,
-    macsr: u32,
-    mask: u32,
-    acc: &[u64; 4],
-    mem: &[u8],
-) -> Change
-    ensures { λ e. ⌜ e ≡ executeOf (now (g .entry)) at sr other (emacOf macsr mask (now (acc .entry))) (now (mem .entry)) ⌝ }
-{
-    match load(mem, at, Size::Word) {
-        Got::Value(op) => instruction(g, at, sr, other, macsr, mask, acc, mem, op),
-        Got::Fault(x) => refused(x),
+    match row {
+        rows::MOVEA_B..=rows::MOVE_B => move_line(1, row, g, at, sr, mem, op),
+        rows::MOVEA_L..=rows::MOVE_L => move_line(2, row, g, at, sr, mem, op),
+        rows::MOVEA_W..=rows::MOVE_W => move_line(3, row, g, at, sr, mem, op),
+        rows::NOP..=rows::ILL_4 => line4(row, g, at, sr, other, mem, op),
+        rows::TPF_W..=rows::ADDQ => line5(row, g, at, sr, mem, op),
+        rows::BRA..=rows::BCC => line6(row, g, at, sr, mem, op),
+        rows::MVS..=rows::MOVEQ => line7(row, g, at, sr, mem, op),
+        rows::LINE8 => not_carried(),
+        rows::SUBX_B..=rows::SUB_MEM => line9(row, g, at, sr, mem, op),
+        rows::MACSR_CCR..=rows::LINEA => linea(row, g, at, sr, macsr, mask, acc, mem, op),
+        rows::CMPA_W..=rows::EOR => lineb(row, g, at, sr, mem, op),
+        rows::MULU_W..=rows::AND_MEM => linec(row, g, at, sr, mem, op),
+        rows::ADDX_B..=rows::ADD_MEM => lined(row, g, at, sr, mem, op),
+        rows::ASX..=rows::ILL_E => linee(row, g, at, sr, op),
+        rows::WDEBUG..=rows::LINEF => linef(row, g, at, sr, mem, op),
+        _ => line0(row, g, at, sr, mem, op),
     }
 }

@@ -1,17 +1,23 @@
 // Steps and runs.
 use super::Progress;
+use address::changes::refused;
 use emac::mac::accumulate_in;
 use exceptions::entry::refusal;
-use execute::execute;
+use execute::instruction;
 use manual::Action;
 use manual::Change;
 use manual::Cpu;
 use manual::Emac;
+use manual::Got;
 use manual::Ran;
 use manual::Reply;
+use manual::Size;
 use manual::Stepped;
+use memory::load;
 use memory::store;
 use perform::perform;
+use rows::row_by;
+use rows::top_rows;
 use statusregister::admitted;
 use word::registers::coded;
 use word::registers::with_parts;
@@ -25,8 +31,9 @@ ghost use Rattle.manual.specs.Emac.{emacOf};
 ghost use Rattle.manual.specs.Reply.{outcome};
 ghost use Rattle.manual.specs.Admitted.{admitted as admittedOf};
 ghost use Rattle.instructions.specs.Perform.{perform as performOf};
-ghost use Rattle.instructions.specs.Step.{step as stepOf};
+ghost use Rattle.instructions.specs.Step.{execute as executeOf, step as stepOf};
 ghost use Rattle.instructions.specs.Run.{runOutcome, run as runOf};
+ghost use Rattle.rows.specs.Top.{Sound};
 ghost use Rattle.machine.specs.Advance.{advance, endedAs, progress};
 
 fn ended(reply: Reply, count: u32, vector: u8, cpu: Cpu) -> Progress
@@ -57,10 +64,34 @@ fn together(rest: Cpu, g: [u32; 16], pc: u32, sr: u16, macsr: u32, mask: u32, ac
     )
 }
 
+// What the word at `at` changes, its row found by a lent table.
+fn execute(
+    top: &[u8],
+    g: &[u32; 16],
+    at: u32,
+    sr: u16,
+    other: u32,
+    macsr: u32,
+    mask: u32,
+    acc: &[u64; 4],
+    mem: &[u8],
+) -> Change
+    requires { ⌜ Sound (now top) ⌝ }
+    ensures { λ e. ⌜ e ≡ executeOf (now (g .entry)) at sr other (emacOf macsr mask (now (acc .entry))) (now (mem .entry)) ⌝ }
+{
+    match load(mem, at, Size::Word) {
+        Got::Value(op) => {
+            let row = row_by(top, op);
+            instruction(row, g, at, sr, other, macsr, mask, acc, mem, op)
+        }
+        Got::Fault(x) => refused(x),
+    }
+}
+
 // As many steps as the budget says, or up to one that is refused. The registers stand apart from the rest of the state, and the common
-// actions are done here; the state is checked once, for every step keeps it admitted.
-fn advanced(given: Cpu, mem: &mut [u8], budget: u32) -> Progress
-    requires { ⌜ (length (now mem) ≤ 0x100_0000) × (admittedOf given ≡ true) ⌝ }
+// actions are done here; the state is checked once, for every step keeps it admitted. The rows are found by the table that is lent.
+fn advanced(top: &[u8], given: Cpu, mem: &mut [u8], budget: u32) -> Progress
+    requires { ⌜ (length (now mem) ≤ 0x100_0000) × (admittedOf given ≡ true) × Sound (now top) ⌝ }
     ensures { λ r. ⌜ advance r (now (mem .exit)) ≡ progress budget 0 0 given (now (mem .entry)) ⌝ }
 {
     let mut g = given.r;
@@ -78,7 +109,7 @@ fn advanced(given: Cpu, mem: &mut [u8], budget: u32) -> Progress
             let last = together(rest, g, pc, sr, macsr, mask, acc);
             return ended(Reply::Stopped, n, 0, last);
         }
-        let change = execute(&g, pc, sr, rest.other, macsr, mask, &acc, &*mem);
+        let change = execute(top, &g, pc, sr, rest.other, macsr, mask, &acc, &*mem);
         let first = change.first;
         let second = change.second;
         let action = change.action;
@@ -141,7 +172,8 @@ pub fn run(cpu: Cpu, mem: &mut [u8], budget: u32) -> Ran
             cpu: cpu,
         };
     }
-    let came = advanced(cpu, mem, budget);
+    let top = top_rows();
+    let came = advanced(&top, cpu, mem, budget);
     let reply = came.reply;
     let last = came.cpu;
     Ran {
@@ -151,7 +183,8 @@ pub fn run(cpu: Cpu, mem: &mut [u8], budget: u32) -> Ran
     }
 }
 
-// One step is a run of one, so that `execute` has one caller and is compiled into the loop.
+// One step is a run of one, so that `execute` has one caller and is compiled into the loop. It lends an empty table: to build the table
+// takes a third of the time of a step.
 pub fn step(cpu: Cpu, mem: &mut [u8]) -> Stepped
     ensures { λ r. ⌜ outcome r (now (mem .exit)) ≡ stepOf cpu (now (mem .entry)) ⌝ }
 {
@@ -161,7 +194,8 @@ pub fn step(cpu: Cpu, mem: &mut [u8]) -> Stepped
     if !admitted(cpu) {
         return refusal(cpu, Reply::NotAdmitted);
     }
-    let came = advanced(cpu, mem, 1);
+    let none: [u8; 0] = [];
+    let came = advanced(&none, cpu, mem, 1);
     let reply = came.reply;
     let last = came.cpu;
     Stepped {

@@ -1,1 +1,2 @@
 pub mod DecodeLaws
+pub mod LentLaws

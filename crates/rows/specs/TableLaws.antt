@@ -40,12 +40,22 @@ swap =
 pub agree : (w v m x y : ℕ) → bitAnd w m ≡ v → bitAnd w y ≡ x → bitAnd v y ≡ bitAnd x m
 agree w v m x y p q = ap (λ (n : ℕ). bitAnd n y) (sym p) ∙ swap w m y ∙ ap (λ (n : ℕ). bitAnd n m) q
 
+-- a word of 16 bits in its top ten and its low six
+pub tens : (w v m : ℕ) → bitAnd w m ≡ v → bitAnd (w / 64) (m / 64) ≡ v / 64
+tens w v m h = sym (and-shr w m 6) ∙ ap (λ (x : ℕ). x / 64) h
+
+pub sixes : (w v m : ℕ) → bitAnd w m ≡ v → bitAnd (w % 64) (m % 64) ≡ v % 64
+sixes w v m h = sym (and-mod w m 6) ∙ ap (λ (x : ℕ). x % 64) h
+
+pub both : (w v m : ℕ) → bitAnd (w / 64) (m / 64) ≡ v / 64 → bitAnd (w % 64) (m % 64) ≡ v % 64 → bitAnd w m ≡ v
+both w v m h l =
+    let top : bitAnd w m / 64 ≡ v / 64 = and-shr w m 6 ∙ h in
+    let low : bitAnd w m % 64 ≡ v % 64 = and-mod w m 6 ∙ l in
+    omega arith
+
 -- a mask that fixes none of the low six bits asks the top ten alone
 pub block : (w v m : ℕ) → m % 64 ≡ 0 → v % 64 ≡ 0 → bitAnd (w / 64) (m / 64) ≡ v / 64 → bitAnd w m ≡ v
-block w v m hm hv h =
-    let top : bitAnd w m / 64 ≡ v / 64 = and-shr w m 6 ∙ h in
-    let low : bitAnd w m % 64 ≡ 0 = and-mod w m 6 ∙ ap (bitAnd (w % 64)) hm ∙ and-zero-r (w % 64) in
-    omega arith
+block w v m hm hv h = both w v m h (ap (bitAnd (w % 64)) hm ∙ and-zero-r (w % 64) ∙ sym hv)
 
 -- ---- a test at each number below n
 

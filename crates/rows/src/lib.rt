@@ -1,9 +1,12 @@
 // The row that an opcode word takes: by its line, and then by the line's rows in the order of the definition's table, those with more
-// fixed bits first. The rows stand in the code as cases, for a constant table is built on the stack again at each look into it.
+// fixed bits first. The rows stand in the code as cases, for a constant table is built on the stack again at each look into it. A table
+// of rows by the word's top ten bits, which is lent, may stand before them.
+mod table;
+
 ghost use mathlib.Core.Path.{_≡_};
-ghost use Prim.Native.Nat.{_/_};
-ghost use Rattle.instructions.specs.Rows.{value, rowOf};
+ghost use Rattle.instructions.specs.Rows.{rowOf};
 ghost use Rattle.rows.specs.RowLaws.{Within};
+ghost use Rattle.rows.specs.Top.{topRows, rowBy};
 
 pub const BITREV: u8 = 0;
 
@@ -252,6 +255,9 @@ pub const CACHE: u8 = 121;
 pub const WDDATA: u8 = 122;
 
 pub const LINEF: u8 = 123;
+
+// What a table has in place of a row.
+pub const UNSETTLED: u8 = 124;
 
 // A line's function is given a word of that line. One that is named for fixed bits too, as `line_4_fff8`, is given a word that none of the
 // line's rows before those takes.
@@ -683,58 +689,23 @@ pub fn row_of(word: u32) -> u8
     }
 }
 
-// The line of a row, by the line's first row. A word is sent to its line by its row: where a compiler knows the row it then knows the
-// line too.
-pub fn line_of(row: u8) -> u8
-    ensures { λ line. ⌜ line ≡ value row / 0x1000 ⌝ }
+// The table of rows by the top ten bits. It is built on the stack where this is called: a run calls it once, and lends it.
+pub fn top_rows() -> [u8; 1024]
+    ensures { λ t. ⌜ t ≡ topRows ⌝ }
 {
-    if row < MOVEA_B {
-        return 0;
+    table::TOP
+}
+
+// The row of a word by a lent table of the top ten bits, and by the rows where the table has none.
+pub fn row_by(top: &[u8], word: u32) -> u8
+    ensures { λ r. ⌜ r ≡ rowBy (now (top .entry)) word ⌝ }
+{
+    let i = (word / 64 % 1024) as usize;
+    if i < top.len() {
+        let row = top[i];
+        if row < UNSETTLED {
+            return row;
+        }
     }
-    if row < MOVEA_L {
-        return 1;
-    }
-    if row < MOVEA_W {
-        return 2;
-    }
-    if row < NOP {
-        return 3;
-    }
-    if row < TPF_W {
-        return 4;
-    }
-    if row < BRA {
-        return 5;
-    }
-    if row < MVS {
-        return 6;
-    }
-    if row < LINE8 {
-        return 7;
-    }
-    if row < SUBX_B {
-        return 8;
-    }
-    if row < MACSR_CCR {
-        return 9;
-    }
-    if row < CMPA_W {
-        return 10;
-    }
-    if row < MULU_W {
-        return 11;
-    }
-    if row < ADDX_B {
-        return 12;
-    }
-    if row < ASX {
-        return 13;
-    }
-    if row < WDEBUG {
-        return 14;
-    }
-    if row < 124 {
-        return 15;
-    }
-    0
+    row_of(word)
 }

@@ -19,23 +19,26 @@ use Rattle.machine.proofs.run.advanced.Statement.{statement}
 use Rattle.machine.proofs.run.advanced.Tie as tie
 
 abbrev Inv-loop : tie.InvT-loop
-Inv-loop mem₀ budget g₀ pc₀ sr₀ macsr₀ mask₀ acc₀ rest₀ vector₀ n₀ mem g pc sr macsr mask acc rest vector n =
+Inv-loop top mem₀ budget g₀ pc₀ sr₀ macsr₀ mask₀ acc₀ rest₀ vector₀ n₀ mem g pc sr macsr mask acc rest vector n =
     (n ≤ budget) × (length mem ≡ length mem₀) × (admitted (withParts g pc sr (emacOf macsr mask acc) rest) ≡ true)
     × (progress (budget - n) n vector (withParts g pc sr (emacOf macsr mask acc) rest) mem ≡ progress budget 0 0 rest₀ mem₀)
 
 abbrev μ-loop : tie.MeasureT-loop
-μ-loop mem₀ budget g₀ pc₀ sr₀ macsr₀ mask₀ acc₀ rest₀ vector₀ n₀ mem g pc sr macsr mask acc rest vector n = budget - n
+μ-loop top mem₀ budget g₀ pc₀ sr₀ macsr₀ mask₀ acc₀ rest₀ vector₀ n₀ mem g pc sr macsr mask acc rest vector n = budget - n
 
 loop-holds : tie.Need-loop-holds Inv-loop μ-loop
-loop-holds c = (search needs, refl, rw (laws.parts (c .before .before .before .args .given)) (c .before .before .before .pre .1), laws.starts _ _ _)
+loop-holds c = (search needs, refl, rw (laws.parts (c .before .before .before .before .args .given)) (c .before .before .before .before .pre .1), laws.starts _ _ _)
 
 returns : tie.Need-returns Inv-loop μ-loop
 returns c =
     let l = c .before .before .before .before in let x = l .loop in
-    let fit : length (x .mem) ≤ 0x100_0000 = rw (x .inv .1) (l .before .before .before .before .pre .0) in
+    let fit : length (x .mem) ≤ 0x100_0000 = rw (x .inv .1) (l .before .before .before .before .before .pre .0) in
     rw (c .ended .ensures)
     (laws.stops _ (x .n) (x .vector) _ (withParts (x .g) (x .pc) (x .sr) (emacOf (x .macsr) (x .mask) (x .acc)) (x .rest)) (x .mem) (x .inv .3) (laws.refusedAs Stopped (c .before .together .result)) _ (c .before .before .before .loop-test .taken)
     (laws.halts (x .g) (x .pc) (x .sr) (emacOf (x .macsr) (x .mask) (x .acc)) (x .rest) (x .mem) fit (x .inv .2) _ (c .before .before .if1 .taken) (c .before .together .ensures)) refl)
+
+execute-requires : tie.Need-execute-requires Inv-loop μ-loop
+execute-requires c κs = c .before .before .before .before .before .before .before .before .before .before .pre .2
 
 same-length-2 : tie.Need-same-length-2 Inv-loop μ-loop
 same-length-2 c = c .before .before .before .before .before .store .kept .0 ∙ c .before .before .before .before .before .before .before .before .before .before .before .before .before .before .before .before .before .before .loop .inv .1
@@ -43,7 +46,7 @@ same-length-2 c = c .before .before .before .before .before .store .kept .0 ∙ 
 returns-2 : tie.Need-returns-2 Inv-loop μ-loop
 returns-2 c =
     let l = c .before .before .before .before .before .before .before .before .before .before .before .before .before .before .before .before .before .before in let x = l .loop in
-    let fit : length (x .mem) ≤ 0x100_0000 = rw (x .inv .1) (l .before .before .before .before .pre .0) in
+    let fit : length (x .mem) ≤ 0x100_0000 = rw (x .inv .1) (l .before .before .before .before .before .pre .0) in
     let o = c .before .before .before .before .before .store in
     rw (c .ended2 .ensures)
     (laws.stops _ (x .n) (x .vector) _ (withParts (x .g) (x .pc) (x .sr) (emacOf (x .macsr) (x .mask) (x .acc)) (x .rest)) (x .mem) (x .inv .3) (laws.refusedAs NotInside (c .before .together2 .result)) _ (c .before .before .before .before .before .before .before .before .before .before .before .before .before .before .before .before .before .loop-test .taken)
@@ -58,7 +61,7 @@ same-length-3 c =
 returns-3 : tie.Need-returns-3 Inv-loop μ-loop
 returns-3 c =
     let l = c .before .before .before .before .before .before .before .before .before .before .before .before .before .before .before .before .before in let x = l .loop in
-    let fit : length (x .mem) ≤ 0x100_0000 = rw (x .inv .1) (l .before .before .before .before .pre .0) in
+    let fit : length (x .mem) ≤ 0x100_0000 = rw (x .inv .1) (l .before .before .before .before .before .pre .0) in
     let o = c .before .before .before .before .before .perform in
     rw (c .ended3 .ensures)
     (laws.stops _ (x .n) (x .vector) _ (withParts (x .g) (x .pc) (x .sr) (emacOf (x .macsr) (x .mask) (x .acc)) (x .rest)) (x .mem) (x .inv .3) (o .result) _ (c .before .before .before .before .before .before .before .before .before .before .before .before .before .before .before .before .loop-test .taken)
@@ -67,7 +70,7 @@ returns-3 c =
 loop-again : tie.Need-loop-again Inv-loop μ-loop
 loop-again c =
     let l = c .before .before .before .before .before .before .before .before .before .before .before .before .before .before .before .before .before .before .before in let x = l .loop in
-    let fit : length (x .mem) ≤ 0x100_0000 = rw (x .inv .1) (l .before .before .before .before .pre .0) in
+    let fit : length (x .mem) ≤ 0x100_0000 = rw (x .inv .1) (l .before .before .before .before .before .pre .0) in
     let o = c .before .before .before .before .before .before .before .perform in
     let done = laws.performed (x .g) (x .pc) (x .sr) (emacOf (x .macsr) (x .mask) (x .acc)) (x .rest) (x .mem) fit (x .inv .2) (c .before .before .before .before .before .before .before .before .before .before .before .before .before .before .before .before .before .if1 .left) (c .before .before .before .before .before .before .before .before .before .before .before .before .before .execute .result) (c .before .before .before .before .before .before .before .before .before .before .before .before .before .execute .ensures) (o .result) _ _ (c .before .before .before .before .before .before .before .before .before .together3 .ensures) (o .ensures) in (
       omega (arith, c .before .before .before .before .before .before .before .before .before .before .before .before .before .before .before .before .before .before .loop-test .taken),
@@ -79,7 +82,7 @@ loop-again c =
 loop-again-2 : tie.Need-loop-again-2 Inv-loop μ-loop
 loop-again-2 c =
     let l = c .before .before .before .before .before .before .before .before .before .before .before .before .before .before in let x = l .loop in
-    let fit : length (x .mem) ≤ 0x100_0000 = rw (x .inv .1) (l .before .before .before .before .pre .0) in
+    let fit : length (x .mem) ≤ 0x100_0000 = rw (x .inv .1) (l .before .before .before .before .before .pre .0) in
     let t = c .before .before .before .before .before .match in
     let next = withParts (c .before .write2 .last .0) (c .before .before .before .before .before .before .before .before .execute .result .pc) (c .coded .result) (emacOf (t .macsr) (x .mask) (t .acc)) (x .rest) in
     let same : length (t .mem) ≡ length (x .mem) =
@@ -120,7 +123,7 @@ advanced-spec =
     (λ c κs. search needs)
     (λ c. search needs)
     returns
-    (λ c κs. search needs)
+    execute-requires
     (λ c. search needs)
     (λ c. search needs)
     (λ c κs. search needs)

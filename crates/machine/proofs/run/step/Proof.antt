@@ -3,6 +3,7 @@ use Rattle.machine.proofs.StepLaws.{step-is}
 use borrow.Author.Tests.{not-true, not-false}
 use borrow.Author.Tests.{lt-ltb, le-ltb}
 use Rattle.instructions.specs.Step.{step as stepOf}
+use Rattle.rows.specs.TopLaws.{empty-sound}
 use borrow.Author.Needs.{needs}
 use Rattle.machine.proofs.run.step.Statement.{statement}
 use Rattle.machine.proofs.run.step.Tie as tie
@@ -16,7 +17,9 @@ unfolding stepOf
 returns-2 c = rw (le-ltb _ _ (c .before .before .before .if1 .left), ← c .before .before .admitted .ensures, not-true (c .before .before .admitted .result) (c .before .if2 .taken), ← c .refusal2 .ensures)
 
 advanced-requires : tie.Need-advanced-requires
-advanced-requires c κs = (c .before .before .before .if1 .left, sym (c .before .before .admitted .ensures) ∙ not-false (c .before .before .admitted .result) (c .before .if2 .left))
+advanced-requires c κs =
+    let c1 = c .before in let c2 = c1 .before in let c3 = c2 .before in
+    (c3 .before .if1 .left, sym (c3 .admitted .ensures) ∙ not-false (c3 .admitted .result) (c2 .if2 .left), empty-sound)
 
 returns-3 : tie.Need-returns-3
 returns-3 c = step-is _ _ _ _ (c .before .before .before .advanced .ensures)
@@ -30,6 +33,7 @@ step-spec =
     (λ c κs. search needs)
     (λ c κs. search needs)
     returns-2
+    (λ c. search needs)
     advanced-requires
     (λ c. search needs)
     returns-3)
