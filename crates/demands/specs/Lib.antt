@@ -18,6 +18,7 @@ pub mod ExactLaws
 pub mod Host
 pub mod Handmade
 pub mod Followed
+pub mod Engines
 pub mod Admits
 pub mod Units
 pub mod Determined
