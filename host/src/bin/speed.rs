@@ -1,7 +1,7 @@
-//! `speed [STEPS [TIMES [PROGRAM]]]`: the original's `execute` in a loop and the archive's `run` on the same programs
-//! (host/programs), alternating in one process. Prints nanoseconds of processor time a step, the best
-//! of TIMES (seven), and the ratio: the archive's speed over the original's. After each pair the two
-//! states and memories must be equal.
+//! `speed [STEPS [TIMES [PROGRAM]]]`: the original's `execute` in a loop, the archive's `run` and the archive's `step`, called a
+//! tenth as often, on the same programs (host/programs), alternating in one process. Prints nanoseconds of processor time a
+//! step, the best of TIMES (seven), and the archive's speed over the original's for a run and for single steps. After each
+//! turn the states and memories must be equal.
 
 #![no_main]
 
@@ -93,32 +93,39 @@ pub extern "C" fn main() -> i32 {
     let (steps, times): (u32, u32) = (number(1, 2_000_000), number(2, 7));
     let mut cpu = Cpu::new(Bus::new());
     println!("{steps} steps, best of {times}");
-    println!("{:8} {:>18} {:>18} {:>6}", "program", "original ns/step", "archive ns/step", "ratio");
+    println!("{:8} {:>11} {:>11} {:>11} {:>11} {:>11}", "program", "original", "run", "ratio", "step", "ratio");
     let only = std::env::args().nth(3);
     for (name, bytes) in PROGRAMS {
         if only.as_ref().is_some_and(|o| o != name) {
             continue;
         }
         let (start, memory) = load(bytes);
-        let mut best = [f64::INFINITY; 2];
+        let mut best = [f64::INFINITY; 3];
         for _ in 0..times {
+            let single = steps / 10;
+            let mut block = start.to_block();
+            let mut mem = memory.clone();
+            let clock = now();
+            for _ in 0..single {
+                assert_eq!(host::step(&mut block, &mut mem).0, Reply::Done, "{name}: the archive refused a step");
+            }
+            best[2] = best[2].min((now() - clock) / single as f64);
+            let clock = now();
+            let answer = host::run(&mut block, &mut mem, steps - single);
+            best[1] = best[1].min((now() - clock) / (steps - single) as f64);
+            assert_eq!(answer, (Reply::Done, steps - single), "{name}: the archive stopped");
+
             set(&mut cpu, &start, &memory);
             let clock = now();
             let done = original(&mut cpu, steps);
             best[0] = best[0].min((now() - clock) / steps as f64);
             assert_eq!(done, steps, "{name}: the original stopped");
 
-            let mut block = start.to_block();
-            let mut mem = memory.clone();
-            let clock = now();
-            let answer = host::run(&mut block, &mut mem, steps);
-            best[1] = best[1].min((now() - clock) / steps as f64);
-            assert_eq!(answer, (Reply::Done, steps), "{name}: the archive stopped");
-
             assert_eq!(State::from_block(&block), Ok(get(&cpu)), "{name}: the states after {steps} steps");
             assert!(mem == cpu.bus.mem, "{name}: the memories after {steps} steps");
         }
-        println!("{name:8} {:18.2} {:18.2} {:6.2}", best[0], best[1], best[0] / best[1]);
+        let [original, run, step] = best;
+        println!("{name:8} {original:11.2} {run:11.2} {:11.2} {step:11.2} {:11.3}", original / run, original / step);
     }
     0
 }
