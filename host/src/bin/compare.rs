@@ -231,10 +231,14 @@ fn text(s: &State) -> String {
 
 // -- families -----------------------------------------------------------------------
 
+/// A step finds its row by the search, and a run by the table in front of it.
 fn words(c: &mut Compare, r: &mut Random) {
     for op in 0..=0xFFFFu16 {
         for supervisor in [false, true] {
             let (s, mem) = aimed(r, op, supervisor);
+            if supervisor {
+                c.check("every word, run", Case::of(Call::Run(1), &s, mem.clone()));
+            }
             c.check("every word", Case::of(Call::Step, &s, mem));
         }
     }
