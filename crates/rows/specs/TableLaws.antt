@@ -40,7 +40,7 @@ swap =
 pub agree : (w v m x y : ℕ) → bitAnd w m ≡ v → bitAnd w y ≡ x → bitAnd v y ≡ bitAnd x m
 agree w v m x y p q = ap (λ (n : ℕ). bitAnd n y) (sym p) ∙ swap w m y ∙ ap (λ (n : ℕ). bitAnd n m) q
 
--- a word of 16 bits in its top ten and its low six
+-- a masked number in its low six bits and those above them
 pub tens : (w v m : ℕ) → bitAnd w m ≡ v → bitAnd (w / 64) (m / 64) ≡ v / 64
 tens w v m h = sym (and-shr w m 6) ∙ ap (λ (x : ℕ). x / 64) h
 
