@@ -4,7 +4,7 @@
 -- those bits; an entry that names none is one where two such words take different rows, so the table settles all that can be settled.
 -- The row that a word gets by the table is the row that it gets by the search: for all 65,536 words, and for every number. Assumes nothing.
 use Prim.Native.Nat.{ℕ, _/_, _%_, _≤_, _<_}
-use mathlib.Core.Path.{_≡_, refl, sym, subst}
+use mathlib.Core.Path.{_≡_, sym, subst}
 use native.Mathlib.Omega.{arith}
 use lib.ListN.{length, getD}
 use Rattle.instructions.specs.Rows.{rowCount, IsRow, rowOf}
@@ -29,9 +29,8 @@ settled h l k w e =
     rw (sym e, top.entry (w / 64 % 1024) (omega arith)) (top.settled w (rw (top.entry (w / 64 % 1024) (omega arith)) at named))
 
 pub table-and-search : TableAndSearch
-unfolding topRows
 table-and-search = record {
-  entries = refl;
+  entries = top.entries;
   settled = settled;
   unsettled = λ h l k. top.unsettled h l (rw (top.entry h l) at k);
   same = top.top-sound;

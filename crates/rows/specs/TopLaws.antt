@@ -10,7 +10,7 @@ use native.Mathlib.Decide.{decLt}
 use borrow.Author.Tests.{le-ltb, lt-ltb, eqb-true, eqb-false}
 use lib.Bits.{bitAnd, and-zero-r}
 use lib.Dec.{T, eqb, ltb, eqb→eq}
-use lib.ListN.{getD, List·getD-map}
+use lib.ListN.{length, getD, List·getD-map}
 use Rattle.instructions.specs.Rows.{values, masks, value, mask, rowCount, Fits, rowOf}
 use Rattle.rows.specs.TableLaws.{tens, sixes, both, block, allBelow, below, found, unfit}
 use Rattle.rows.specs.RowLaws.{rowOf-lt, rowOf-fits, rowOf-first, rowOf-mod}
@@ -141,6 +141,10 @@ at : (f : ℕ → ℕ) (i n k d : ℕ) → k < n → getD (map f (upTo i n)) k d
 at f i zero k d h = absurd (not-suc-le-zero h)
 at f i (suc n) zero d h = ap f (sym (add-zero i))
 at f i (suc n) (suc k) d h = at f (suc i) n k d (le-of-suc-le-suc h) ∙ ap f (suc-add i k ∙ sym (add-suc i k))
+
+pub entries : length topRows ≡ 1024
+unfolding topRows
+entries = refl
 
 pub entry : (h : ℕ) → h < 1024 → getD topRows h rowCount ≡ topOf h
 unfolding topRows
