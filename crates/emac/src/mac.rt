@@ -1,3 +1,4 @@
 // MAC and MSAC.
 pub use emacsum::accumulate;
+pub use emacsum::accumulate_fraction;
 pub use emacsum::accumulate_in;

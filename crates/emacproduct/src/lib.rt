@@ -1,5 +1,6 @@
 // The product of two longs, and the scale factor. A signed number z is computed as z + 2^52, which is not negative.
 use manual::Mode;
+use word::word::plus;
 ghost use mathlib.Core.Path.{_≡_};
 ghost use mathlib.Core.Bool.{true, false, not};
 ghost use Prim.Native.Nat.{_+_, _-_, _*_, _%_, _^_, _<_, _≤_};
@@ -9,7 +10,7 @@ ghost use Rattle.manual.specs.declared.Size.the-variants.{Long};
 ghost use Rattle.manual.specs.Word.{signed, inHalf};
 ghost use Rattle.manual.specs.Emac.{roundsUp, fraction as fractionOf, signedProduct, unsignedProduct, productOf, productOver, scaleOf};
 ghost use Rattle.word.specs.RaisedLaws.{Up};
-ghost use Rattle.emacproduct.specs.Products.{magnitude as magnitudeOf, IsFraction, raisedProduct, IsNumber, IsScaled};
+ghost use Rattle.emacproduct.specs.Products.{IsFraction, raisedProduct, IsNumber, IsScaled};
 
 // A number raised by 2^52, and whether it overflowed.
 pub struct Raised {
@@ -24,43 +25,29 @@ pub fn rounds_up(half: u64, rest: u64, quotient: u64) -> bool
     (rest > half) | ((rest == half) & (quotient % 2 == 1))
 }
 
-fn mul31(a: u64, b: u64) -> u64
-    requires { ⌜ (a ≤ 2 ^ 31) × (b ≤ 2 ^ 31) ⌝ }
-    ensures { λ r. ⌜ (r ≡ a * b) × (r ≤ 2 ^ 62) ⌝ }
+// A signed long, raised by 2^31.
+fn raised_long(x: u32) -> u64
+    ensures { λ r. ⌜ (r ≡ (x + 2 ^ 31) % 2 ^ 32) × (r < 2 ^ 32) ⌝ }
+{
+    plus(x, 0x8000_0000) as u64
+}
+
+fn mul32(a: u64, b: u64) -> u64
+    requires { ⌜ (a < 2 ^ 32) × (b < 2 ^ 32) ⌝ }
+    ensures { λ r. ⌜ r ≡ a * b ⌝ }
 {
     a * b
 }
 
-// A signed long without its sign.
-fn magnitude(x: u32) -> u64
-    ensures { λ r. ⌜ (r ≡ magnitudeOf x) × (r ≤ 2 ^ 31) ⌝ }
-{
-    let a = x as u64;
-    if a < 0x8000_0000 {
-        a
-    } else {
-        0x1_0000_0000 - a
-    }
-}
-
-// The signed product, raised by 2^62. A sign is as likely as the other, so no branch should hang on it: the magnitudes are multiplied first.
+// The signed product, raised by 2^62, of the raised numbers and with no branch: (a - h)(b - h) + h * h = a * b + 2 * h * h - (a + b) * h, modulo 2^64.
 fn product(x: u32, y: u32) -> u64
     ensures { λ r. ⌜ Up (2 ^ 62) (signed Long x *ℤ signed Long y) r × (r ≤ 2 ^ 63) ⌝ }
 {
-    let m = mul31(magnitude(x), magnitude(y));
-    if x < 0x8000_0000 {
-        if y < 0x8000_0000 {
-            0x4000_0000_0000_0000 + m
-        } else {
-            0x4000_0000_0000_0000 - m
-        }
-    } else {
-        if y < 0x8000_0000 {
-            0x4000_0000_0000_0000 - m
-        } else {
-            0x4000_0000_0000_0000 + m
-        }
-    }
+    let a = raised_long(x);
+    let b = raised_long(y);
+    let m = mul32(a, b);
+    let less = std::num::wrapping_sub_u64(m, (a + b) * 0x8000_0000);
+    std::num::wrapping_add_u64(less, 0x8000_0000_0000_0000)
 }
 
 // A product raised by 2^62 as a fraction, raised by 2^39.

@@ -104,6 +104,31 @@ fn summed(m: u32, a: u64, i: u32, scale: u32, sub: bool, x: u32, y: u32) -> Afte
     settled(k, m, i, p.over, sum(sub, c, p.value))
 }
 
+// The same of fractions, neither rounded nor saturated: the mode is written out for the compiler.
+fn summed_fraction(m: u32, a: u64, i: u32, scale: u32, sub: bool, x: u32, y: u32) -> AfterSum
+    ensures { λ r. ⌜ IsSummed m a i scale sub x y r ⌝ }
+{
+    let k = mode_of(m);
+    if !k.fi {
+        return summed(m, a, i, scale, sub, x, y);
+    }
+    if k.rt {
+        return summed(m, a, i, scale, sub, x, y);
+    }
+    if k.omc {
+        return summed(m, a, i, scale, sub, x, y);
+    }
+    let f = Mode {
+        fi: true,
+        su: k.su,
+        rt: false,
+        omc: false,
+    };
+    let p = scaled_product(f, scale, x, y);
+    let c = value_of(f, a);
+    settled(f, m, i, p.over, sum(sub, c, p.value))
+}
+
 // MAC, and MSAC where `sub`, of a unit in parts: x times y, scaled, to accumulator i, in place. MACSR after it.
 pub fn accumulate_in(
     macsr: u32,
@@ -119,6 +144,25 @@ pub fn accumulate_in(
 {
     let j = (i % 4) as usize;
     let s = summed(macsr, acc[j], i, scale, sub, x, y);
+    acc[j] = s.acc;
+    s.macsr
+}
+
+// The same, with fractions first.
+pub fn accumulate_fraction(
+    macsr: u32,
+    mask: u32,
+    acc: &mut [u64; 4],
+    i: u32,
+    scale: u32,
+    sub: bool,
+    x: u32,
+    y: u32,
+) -> u32
+    ensures { λ r. ⌜ emacOf r mask (now (acc .exit)) ≡ accumulateOf (emacOf macsr mask (now (acc .entry))) i scale sub x y ⌝ }
+{
+    let j = (i % 4) as usize;
+    let s = summed_fraction(macsr, acc[j], i, scale, sub, x, y);
     acc[j] = s.acc;
     s.macsr
 }

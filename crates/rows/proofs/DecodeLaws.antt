@@ -1,12 +1,12 @@
 -- How a decoder finds a word's row: it is the row that fits where no row before it that could fit beside it does, and it is past
 -- those that do not fit. Assumes nothing.
-use mathlib.Core.Path.{_≡_, subst}
+use mathlib.Core.Path.{_≡_, sym, ap, _∙_, subst}
 use mathlib.Core.Bool.{Bool, true, false}
-use Prim.Native.Nat.{ℕ, zero, suc, _+_, _-_, _/_, _≤_, _<_}
+use Prim.Native.Nat.{ℕ, zero, suc, _+_, _-_, _/_, _%_, _≤_, _<_}
 use native.Mathlib.Omega.{arith}
 use native.Mathlib.Decide.{decLt}
 use borrow.Author.Tests.{eq-eqb}
-use lib.Bits.{bitAnd}
+use lib.Bits.{bitAnd, and-shr, and-mod, and-mask}
 use lib.Dec.{eqb}
 use Rattle.instructions.specs.Rows.{value, mask, Fits, rowOf}
 use Rattle.rows.specs.TableLaws.{agree}
@@ -75,6 +75,23 @@ past {n} {e} {w} (suc d) h c = let b = past d h (c .0) in go b (decLt (n + d) (r
 -- one row is left
 pub only : {n w : ℕ} → Within n (suc n) w → n ≡ rowOf w
 only h = omega arith
+
+-- ---- ADDQ and SUBQ of a long to Dn: bits 7 to 3 are 10000
+
+middle : (w m v : ℕ) → bitAnd w m ≡ v → bitAnd (w / 8 % 32) (m / 8 % 32) ≡ v / 8 % 32
+middle w m v f = sym (and-mod (w / 8) (m / 8) 5) ∙ ap (λ (x : ℕ). x % 32) (sym (and-shr w m 3)) ∙ ap (λ (x : ℕ). x / 8 % 32) f
+
+apart : (w q : ℕ) → bitAnd w 0xF0F8 ≡ 0x5080 → (bitAnd 16 (mask q / 8 % 32) ≡ value q / 8 % 32 → ⊥) → Fits w q → ⊥
+apart w q f h g =
+    let k : 16 ≡ w / 8 % 32 % 32 = sym (middle w 0xF0F8 0x5080 f) ∙ and-mask (w / 8 % 32) 5 in
+    let e : 16 ≡ w / 8 % 32 = omega arith in
+    h (ap (λ (x : ℕ). bitAnd x (mask q / 8 % 32)) e ∙ middle w (mask q) (value q) g)
+
+pub long-addq : {w : ℕ} → Within 60 69 w → bitAnd w 0xF0F8 ≡ 0x5080 → 68 ≡ rowOf w
+long-addq {w} h f =
+    only
+    (past 8 h
+    ((((((((tt, apart w 60 f (λ e. omega arith)), apart w 61 f (λ e. omega arith)), apart w 62 f (λ e. omega arith)), apart w 63 f (λ e. omega arith)), apart w 64 f (λ e. omega arith)), apart w 65 f (λ e. omega arith)), apart w 66 f (λ e. omega arith)), apart w 67 f (λ e. omega arith)))
 
 -- ---- the word's line, by its four top bits
 

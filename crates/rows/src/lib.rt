@@ -416,6 +416,10 @@ fn line_5(w: u32) -> u8
     requires { ⌜ Within 60 69 w ⌝ }
     ensures { λ r. ⌜ r ≡ rowOf w ⌝ }
 {
+    // A long in Dn first, for it is frequent: none of the rows before ADDQ fits it.
+    if w & 0xF0F8 == 0x5080 {
+        return ADDQ;
+    }
     match w & 0xF0FF {
         0x50FA => TPF_W,
         0x50FB => TPF_L,

@@ -1,55 +1,58 @@
-use mathlib.Core.Path.{_≡_, ap₂, _∙_}
-use Prim.Native.Nat.{ℕ, _*_}
 use native.Mathlib.Omega.{arith}
-use Rattle.emacproduct.specs.ProductLaws.{magnitude-pos, magnitude-neg, pos-pos, pos-neg, neg-pos, neg-neg}
+use Rattle.emacproduct.proofs.RaisedProduct.{raised-product}
 use borrow.Author.Needs.{needs}
 use Rattle.emacproduct.proofs.product.Statement.{statement}
 use Rattle.emacproduct.proofs.product.Tie as tie
+use Rattle.emacproduct.proofs.product.Reads as reads
+use Rattle.emacproduct.proofs.product.Lts as lts
+use Rattle.emacproduct.proofs.mul32.Reads as mul32-reads
+use Rattle.emacproduct.proofs.raised_long.Reads as raised-long-reads
+use Rattle.std.proofs.num.wrapping_add_u64.Reads as wrapping-add-u64-reads
+use Rattle.std.proofs.num.wrapping_sub_u64.Reads as wrapping-sub-u64-reads
 
--- the product of two magnitudes, by what each of them is
-times : (q a b x y : ℕ) → q ≡ a * b → a ≡ x → b ≡ y → q ≡ x * y
-times q a b x y p f g = p ∙ ap₂ (λ (m n : ℕ). m * n) f g
+-- src/lib.rt:46:9
+raised-long-requires : tie.Need-raised-long-requires
+raised-long-requires c κs = search needs
 
+-- src/lib.rt:47:9
+raised-long-requires-2 : tie.Need-raised-long-requires-2
+raised-long-requires-2 c κs = search needs
+
+-- src/lib.rt:48:9
+mul32-requires : tie.Need-mul32-requires
+mul32-requires c κs = search needs
+
+-- src/lib.rt:49:47
+add-wrapping-sub-u64 : tie.Need-add-wrapping-sub-u64
+add-wrapping-sub-u64 c = search needs
+
+-- src/lib.rt:49:46
+mul-wrapping-sub-u64 : tie.Need-mul-wrapping-sub-u64
+mul-wrapping-sub-u64 c = search needs
+
+-- src/lib.rt:49:9
+wrapping-sub-u64-requires : tie.Need-wrapping-sub-u64-requires
+wrapping-sub-u64-requires c κs = search needs
+
+-- src/lib.rt:50:5
+wrapping-add-u64-requires : tie.Need-wrapping-add-u64-requires
+wrapping-add-u64-requires c κs = search needs
+
+-- src/lib.rt:43:1
 returns : tie.Need-returns
 returns c =
-    let q = c .before .before in let d = q .before in let e = d .before in let x = e .before .args in
-    let l = c .before .if1 .taken in let k = c .if2 .taken in
-    let p = times _ _ _ _ _ (q .mul31 .ensures .0) (e .magnitude .ensures .0 ∙ magnitude-pos (x .x) l) (d .magnitude2 .ensures .0 ∙ magnitude-pos (x .y) k) in
-    (pos-pos (x .x) (x .y) _ l k p, omega (arith, q .mul31 .ensures .1))
-
-returns-2 : tie.Need-returns-2
-returns-2 c =
-    let q = c .before .before in let d = q .before in let e = d .before in let x = e .before .args in
-    let l = c .before .if1 .taken in let k = c .if2 .left in
-    let p = times _ _ _ _ _ (q .mul31 .ensures .0) (e .magnitude .ensures .0 ∙ magnitude-pos (x .x) l) (d .magnitude2 .ensures .0 ∙ magnitude-neg (x .y) k) in
-    (pos-neg (x .x) (x .y) _ l k (search needs) p (q .mul31 .ensures .1), omega (arith, q .mul31 .ensures .1))
-
-returns-3 : tie.Need-returns-3
-returns-3 c =
-    let q = c .before .before in let d = q .before in let e = d .before in let x = e .before .args in
-    let l = c .before .if1 .left in let k = c .if3 .taken in
-    let p = times _ _ _ _ _ (q .mul31 .ensures .0) (e .magnitude .ensures .0 ∙ magnitude-neg (x .x) l) (d .magnitude2 .ensures .0 ∙ magnitude-pos (x .y) k) in
-    (neg-pos (x .x) (x .y) _ l (search needs) k p (q .mul31 .ensures .1), omega (arith, q .mul31 .ensures .1))
-
-returns-4 : tie.Need-returns-4
-returns-4 c =
-    let q = c .before .before in let d = q .before in let e = d .before in let x = e .before .args in
-    let l = c .before .if1 .left in let k = c .if3 .left in
-    let p = times _ _ _ _ _ (q .mul31 .ensures .0) (e .magnitude .ensures .0 ∙ magnitude-neg (x .x) l) (d .magnitude2 .ensures .0 ∙ magnitude-neg (x .y) k) in
-    (neg-neg (x .x) (x .y) _ l (search needs) k (search needs) p, omega (arith, q .mul31 .ensures .1))
+    let c1 = c .before in let c2 = c1 .before in let c3 = c2 .before in let c4 = c3 .before in let c5 = c4 .before in let a = c5 in
+    raised-product (a .args .x) (a .args .y) _ _ _ _ _ (omega arith) (omega arith) (c4 .raised-long .ensures .0) (c3 .raised-long2 .ensures .0) (c2 .mul32 .ensures) (c1 .wrapping-sub-u64 .ensures) (c .wrapping-add-u64 .ensures) (omega arith)
 
 pub product-spec : {M : Type 1} → statement M
 product-spec =
     tie.close
     (tie.spec
-    (λ c κs. search needs)
-    (λ c κs. search needs)
-    (λ c κs. search needs)
-    (λ c. search needs)
-    (λ c. search needs)
-    (λ c. search needs)
-    (λ c. search needs)
-    returns
-    returns-2
-    returns-3
-    returns-4)
+    raised-long-requires
+    raised-long-requires-2
+    mul32-requires
+    add-wrapping-sub-u64
+    mul-wrapping-sub-u64
+    wrapping-sub-u64-requires
+    wrapping-add-u64-requires
+    returns)

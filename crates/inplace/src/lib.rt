@@ -1,0 +1,49 @@
+// A change done in place, where it has nothing more to do than to store.
+use manual::Action;
+use manual::Change;
+use memory::store;
+use word::registers::coded;
+use word::registers::write;
+ghost use mathlib.Core.Path.{_≡_};
+ghost use mathlib.Core.List.{List};
+ghost use Prim.Native.Nat.{ℕ};
+ghost use Rattle.inplace.specs.Effects.{after, agreed};
+
+// Done, with the next address and the status register; or left undone, with nothing changed.
+pub enum Effect {
+    Done(u32, u16),
+    Left,
+}
+
+// A change with nothing more to do, whatever the memory.
+pub fn settled(g: &mut [u32; 16], sr: u16, c: Change) -> Effect
+    ensures { λ e. ⌜ ((m : List ℕ) → after e (now (g .exit)) m ≡ agreed e c sr (now (g .entry)) m) ⌝ }
+{
+    let first = c.first;
+    let second = c.second;
+    let action = c.action;
+    let Action::Nothing = action else {
+        return Effect::Left;
+    };
+    write(g, first);
+    write(g, second);
+    Effect::Done(c.pc, coded(sr, c.ccr))
+}
+
+// A change with a store.
+pub fn stored(g: &mut [u32; 16], mem: &mut [u8], sr: u16, c: Change) -> Effect
+    ensures { λ e. ⌜ after e (now (g .exit)) (now (mem .exit)) ≡ agreed e c sr (now (g .entry)) (now (mem .entry)) ⌝ }
+{
+    let first = c.first;
+    let second = c.second;
+    let action = c.action;
+    let Action::Store(a, z, v) = action else {
+        return Effect::Left;
+    };
+    if !store(mem, a, z, v) {
+        return Effect::Left;
+    }
+    write(g, first);
+    write(g, second);
+    Effect::Done(c.pc, coded(sr, c.ccr))
+}

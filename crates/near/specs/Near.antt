@@ -1,0 +1,46 @@
+-- What a spot says of an operand's place, and a reading of its source. `Far` says nothing. Assumes nothing.
+use Prim.Native.Nat.{ℕ}
+use mathlib.Core.Path.{_≡_, sym}
+use mathlib.Core.List.{List}
+use Rattle.manual.specs.declared.Size.{Size}
+use Rattle.manual.specs.declared.Got.the-variants.{Value}
+use Rattle.manual.specs.declared.Operand.{Operand}
+use Rattle.manual.specs.declared.Place.{Place}
+use Rattle.manual.specs.declared.Place.the-variants.{M}
+use Rattle.manual.specs.declared.Source.{Source}
+use Rattle.manual.specs.declared.Write.{Write}
+use Rattle.manual.specs.Word.{plus}
+use Rattle.manual.specs.Address.{extension, locate, moved}
+use Rattle.near.specs.declared.Spot.{Spot}
+use Rattle.near.specs.declared.Spot.the-variants.{At, Far}
+use Rattle.near.specs.declared.Reading.{Reading}
+use Rattle.near.specs.declared.Reading.the-variants.{Read, Far as Unread}
+
+-- where an operand is, its extension words being at pc
+pub record Located : Type 0 where
+  pub place : Place
+  pub next : ℕ
+  pub step : Write
+
+abbrev pub located : List ℕ → List ℕ → ℕ → Operand → Size → Located
+located g m pc o z = record { place = locate g m pc o z; next = plus pc (extension o z); step = moved g o z }
+
+abbrev pub inMemory : ℕ → ℕ → Write → Located
+inMemory a next w = record { place = M a; next = next; step = w }
+
+abbrev pub spotted : Spot → Located → Located
+spotted (At a next w) l = inMemory a next w
+spotted Far l = l
+
+abbrev pub readAs : ℕ → ℕ → Write → Source
+readAs v next w = record { got = Value v; next = next; moved = w }
+
+abbrev pub asRead : Reading → Source → Source
+asRead (Read v next w) s = readAs v next w
+asRead Unread s = s
+
+pub at : (s : Spot) (l : Located) (a next : ℕ) (w : Write) → s ≡ At a next w → spotted s l ≡ l → l ≡ inMemory a next w
+at s l a next w q h = sym (rw q at h)
+
+pub read : (r : Reading) (s : Source) (v next : ℕ) (w : Write) → r ≡ Read v next w → asRead r s ≡ s → s ≡ readAs v next w
+read r s v next w q h = sym (rw q at h)
