@@ -47,3 +47,15 @@ pub fn stored(g: &mut [u32; 16], mem: &mut [u8], sr: u16, c: Change) -> Effect
     write(g, second);
     Effect::Done(c.pc, coded(sr, c.ccr))
 }
+
+// Any change, where that is all it does.
+pub fn carried_out(g: &mut [u32; 16], mem: &mut [u8], sr: u16, c: Change) -> Effect
+    ensures { λ e. ⌜ after e (now (g .exit)) (now (mem .exit)) ≡ agreed e c sr (now (g .entry)) (now (mem .entry)) ⌝ }
+{
+    let action = c.action;
+    match action {
+        Action::Nothing => settled(g, sr, c),
+        Action::Store(_, _, _) => stored(g, mem, sr, c),
+        _ => Effect::Left,
+    }
+}

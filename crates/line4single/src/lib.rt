@@ -198,7 +198,7 @@ pub fn tas(g: &[u32; 16], at: u32, sr: u16, mem: &[u8], op: u32) -> Change
     )
 }
 
-fn product(w: u32, d: u32, v: u32) -> u32
+pub fn product(w: u32, d: u32, v: u32) -> u32
     ensures { λ r. ⌜ r ≡ cond (eqb (w / 0x800 % 2) 1) (signedLongProduct d v) (longProduct d v) ⌝ }
 {
     if w / 0x800 % 2 == 1 {

@@ -74,7 +74,7 @@ fn ff1(g: &[u32; 16], at: u32, sr: u16, op: u32) -> Change
     done(next, codes, none, write_data(op, u32::leading_zeros(v)))
 }
 
-fn logic_immediate(l: Logic, g: &[u32; 16], at: u32, sr: u16, mem: &[u8], op: u32) -> Change
+pub fn logic_immediate(l: Logic, g: &[u32; 16], at: u32, sr: u16, mem: &[u8], op: u32) -> Change
     ensures { λ e. ⌜ e ≡ logicImmediate l (now (g .entry)) at sr (now (mem .entry)) op ⌝ }
 {
     let pc = plus(at, 2);
@@ -89,7 +89,7 @@ fn logic_immediate(l: Logic, g: &[u32; 16], at: u32, sr: u16, mem: &[u8], op: u3
     done(next, codes, none, write_data(op, r))
 }
 
-fn sum_immediate(add: bool, g: &[u32; 16], at: u32, mem: &[u8], op: u32) -> Change
+pub fn sum_immediate(add: bool, g: &[u32; 16], at: u32, mem: &[u8], op: u32) -> Change
     ensures { λ e. ⌜ e ≡ sumImmediate add (now (g .entry)) at (now (mem .entry)) op ⌝ }
 {
     let pc = plus(at, 2);
@@ -119,7 +119,7 @@ fn cmpi(z: Size, g: &[u32; 16], at: u32, sr: u16, mem: &[u8], op: u32) -> Change
     done(next, codes, none, none)
 }
 
-fn bit_of_data(g: &[u32; 16], pc: u32, sr: u16, op: u32, n: u32) -> Change
+pub fn bit_of_data(g: &[u32; 16], pc: u32, sr: u16, op: u32, n: u32) -> Change
     ensures { λ e. ⌜ e ≡ bitOfData (now (g .entry)) pc sr op n ⌝ }
 {
     let v = data(g, op);

@@ -30,7 +30,7 @@ pub fn quick_number(op: u32) -> u32
     if n == 0 { 8 } else { n }
 }
 
-fn quick_address(g: &[u32; 16], at: u32, sr: u16, op: u32) -> Change
+pub fn quick_address(g: &[u32; 16], at: u32, sr: u16, op: u32) -> Change
     ensures { λ e. ⌜ e ≡ quickAddress (now (g .entry)) at sr op ⌝ }
 {
     let next = plus(at, 2);
@@ -63,7 +63,7 @@ fn quick(g: &[u32; 16], at: u32, mem: &[u8], op: u32) -> Change
     }
 }
 
-fn scc(g: &[u32; 16], at: u32, sr: u16, op: u32) -> Change
+pub fn scc(g: &[u32; 16], at: u32, sr: u16, op: u32) -> Change
     ensures { λ e. ⌜ e ≡ setByCondition (now (g .entry)) at sr op ⌝ }
 {
     let next = plus(at, 2);

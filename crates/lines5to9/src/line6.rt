@@ -41,7 +41,7 @@ fn displacement_bytes(low: u32) -> u32
     }
 }
 
-fn bra(at: u32, sr: u16, mem: &[u8], op: u32) -> Change
+pub fn bra(at: u32, sr: u16, mem: &[u8], op: u32) -> Change
     ensures { λ e. ⌜ e ≡ braOf at sr (now (mem .entry)) op ⌝ }
 {
     let pc = plus(at, 2);
@@ -52,7 +52,7 @@ fn bra(at: u32, sr: u16, mem: &[u8], op: u32) -> Change
     jump(sr, plus(pc, d))
 }
 
-fn bsr(g: &[u32; 16], at: u32, sr: u16, mem: &[u8], op: u32) -> Change
+pub fn bsr(g: &[u32; 16], at: u32, sr: u16, mem: &[u8], op: u32) -> Change
     ensures { λ e. ⌜ e ≡ bsrOf (now (g .entry)) at sr (now (mem .entry)) op ⌝ }
 {
     let pc = plus(at, 2);

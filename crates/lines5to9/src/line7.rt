@@ -16,7 +16,7 @@ ghost use mathlib.Core.Path.{_≡_};
 ghost use Prim.Native.Nat.{_+_, _*_, _/_, _%_};
 ghost use Rattle.instructions.specs.Line7.{moveQuick, moveSigned, moveZero, line7 as line7Of};
 
-fn moveq(at: u32, sr: u16, op: u32) -> Change
+pub fn moveq(at: u32, sr: u16, op: u32) -> Change
     ensures { λ e. ⌜ e ≡ moveQuick at sr op ⌝ }
 {
     let v = sign_extended(Size::Byte, op);

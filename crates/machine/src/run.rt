@@ -1,6 +1,5 @@
 // Steps and runs.
 use super::Progress;
-use address::changes::refused;
 use emac::mac::accumulate_in;
 use exceptions::entry::refusal;
 use execute::instruction;
@@ -16,6 +15,8 @@ use manual::Stepped;
 use memory::load;
 use memory::store;
 use perform::perform;
+use quick::Attempt;
+use quick::quick_step;
 use rows::row_by;
 use rows::top_rows;
 use statusregister::admitted;
@@ -64,30 +65,6 @@ fn together(rest: Cpu, g: [u32; 16], pc: u32, sr: u16, macsr: u32, mask: u32, ac
     )
 }
 
-// What the word at `at` changes, its row found by a lent table.
-fn execute(
-    top: &[u8],
-    g: &[u32; 16],
-    at: u32,
-    sr: u16,
-    other: u32,
-    macsr: u32,
-    mask: u32,
-    acc: &[u64; 4],
-    mem: &[u8],
-) -> Change
-    requires { ⌜ Sound (now top) ⌝ }
-    ensures { λ e. ⌜ e ≡ executeOf (now (g .entry)) at sr other (emacOf macsr mask (now (acc .entry))) (now (mem .entry)) ⌝ }
-{
-    match load(mem, at, Size::Word) {
-        Got::Value(op) => {
-            let row = row_by(top, op);
-            instruction(row, g, at, sr, other, macsr, mask, acc, mem, op)
-        }
-        Got::Fault(x) => refused(x),
-    }
-}
-
 // As many steps as the budget says, or up to one that is refused. The registers stand apart from the rest of the state, and the common
 // actions are done here; the state is checked once, for every step keeps it admitted. The rows are found by the table that is lent.
 fn advanced(top: &[u8], given: Cpu, mem: &mut [u8], budget: u32) -> Progress
@@ -109,7 +86,32 @@ fn advanced(top: &[u8], given: Cpu, mem: &mut [u8], budget: u32) -> Progress
             let last = together(rest, g, pc, sr, macsr, mask, acc);
             return ended(Reply::Stopped, n, 0, last);
         }
-        let change = execute(top, &g, pc, sr, rest.other, macsr, mask, &acc, &*mem);
+        let op = match load(&*mem, pc, Size::Word) {
+            Got::Value(op) => op,
+            Got::Fault(_) => {
+                let last = together(rest, g, pc, sr, macsr, mask, acc);
+                return ended(Reply::NotInside, n, 0, last);
+            }
+        };
+        let row = row_by(top, op);
+        match quick_step(row, &mut g, &mut acc, pc, sr, macsr, mask, mem, op) {
+            Attempt::Done(next, now) => {
+                pc = next;
+                sr = now;
+                vector = 0;
+                n = done;
+                continue;
+            }
+            Attempt::Summed(next, now) => {
+                pc = next;
+                macsr = now;
+                vector = 0;
+                n = done;
+                continue;
+            }
+            Attempt::Left => {}
+        }
+        let change = instruction(row, &g, pc, sr, rest.other, macsr, mask, &acc, &*mem, op);
         let first = change.first;
         let second = change.second;
         let action = change.action;

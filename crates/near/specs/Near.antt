@@ -1,6 +1,6 @@
 -- What a spot says of an operand's place, and a reading of its source. `Far` says nothing. Assumes nothing.
 use Prim.Native.Nat.{ℕ}
-use mathlib.Core.Path.{_≡_, sym}
+use mathlib.Core.Path.{_≡_, sym, ap}
 use mathlib.Core.List.{List}
 use Rattle.manual.specs.declared.Size.{Size}
 use Rattle.manual.specs.declared.Got.the-variants.{Value}
@@ -10,7 +10,10 @@ use Rattle.manual.specs.declared.Place.the-variants.{M}
 use Rattle.manual.specs.declared.Source.{Source}
 use Rattle.manual.specs.declared.Write.{Write}
 use Rattle.manual.specs.Word.{plus}
+use Rattle.manual.specs.Registers.{noWrite}
 use Rattle.manual.specs.Address.{extension, locate, moved}
+use Rattle.manual.specs.Change.{put, store}
+use Rattle.manual.specs.declared.Change.{Change}
 use Rattle.near.specs.declared.Spot.{Spot}
 use Rattle.near.specs.declared.Spot.the-variants.{At, Far}
 use Rattle.near.specs.declared.Reading.{Reading}
@@ -44,3 +47,13 @@ at s l a next w q h = sym (rw q at h)
 
 pub read : (r : Reading) (s : Source) (v next : ℕ) (w : Write) → r ≡ Read v next w → asRead r s ≡ s → s ≡ readAs v next w
 read r s v next w q h = sym (rw q at h)
+
+-- what is put in memory is stored: the operand's move comes second after another operand's, or first
+module _ (z : Size) (g m : List ℕ) (pc : ℕ) (o : Operand) (codes v a next : ℕ) (w : Write) (h : located g m pc o z ≡ inMemory a next w) where
+  pub put-second : (one : Write) → put g (plus pc (extension o z)) codes one (moved g o z) (locate g m pc o z) z v ≡ store next codes one w a z v
+  unfolding put
+  put-second one = ap (λ (l : Located). put g (l .next) codes one (l .step) (l .place) z v) h
+
+  pub put-first : put g (plus pc (extension o z)) codes (moved g o z) noWrite (locate g m pc o z) z v ≡ store next codes w noWrite a z v
+  unfolding put
+  put-first = ap (λ (l : Located). put g (l .next) codes (l .step) noWrite (l .place) z v) h

@@ -1,0 +1,144 @@
+// The quick path: the common instructions, each by its row, done in place. Any other word, and any operand or fault that the bodies do not
+// take on, is left to the plain engine, with nothing changed.
+use inplace::Effect;
+use inplace::settled;
+use inplace::stored;
+use line4control::link;
+use line4control::rts;
+use line4control::unlk;
+use line4single::extb;
+use line4single::swap;
+use lines0to3::line0::logic_immediate;
+use lines0to3::line0::sum_immediate;
+use lines5to9::line5::quick_address;
+use lines5to9::line5::scc;
+use lines5to9::line6::bra;
+use lines5to9::line6::bsr;
+use lines5to9::line7::moveq;
+use linesbtof::linee::shift;
+use manual::Logic;
+use quickflow::bcc;
+use quickflow::jsr;
+use quickflow::load_registers;
+use quickflow::pea;
+use quickflow::store_registers;
+use quicklogic::and_to_data;
+use quicklogic::bit_by_immediate;
+use quicklogic::bit_by_register;
+use quicklogic::eor_to_data;
+use quicklogic::multiply_longs;
+use quickmac::Summed;
+use quickmac::quick_mac;
+use quickmove::clear_place;
+use quickmove::lea;
+use quickmove::move_address;
+use quickmove::move_long;
+use quickpart::part;
+use quicksum::add_to_address;
+use quicksum::add_to_data;
+use quicksum::compare_address;
+use quicksum::compare_data;
+use quicksum::compare_immediate;
+use quicksum::quick_data;
+use quicksum::sub_to_address;
+use quicksum::sub_to_data;
+ghost use mathlib.Core.Path.{_≡_};
+ghost use Prim.Native.Nat.{ℕ};
+ghost use Rattle.manual.specs.declared.Emac.{Emac};
+ghost use Rattle.manual.specs.Emac.{emacOf};
+ghost use Rattle.instructions.specs.Step.{ofRow};
+ghost use Rattle.inplace.specs.Effects.{after, agreed};
+ghost use Rattle.quick.specs.Attempts.{Attempted};
+
+// Done, with the next address and the status register; or summed, with the next address and MACSR; or left, with nothing changed.
+pub enum Attempt {
+    Done(u32, u16),
+    Summed(u32, u32),
+    Left,
+}
+
+// The instructions that leave the EMAC unit as it is. The bodies in quick.. are for the quick path alone; the others are the plain engine's.
+pub fn in_place(row: u8, g: &mut [u32; 16], pc: u32, sr: u16, mem: &mut [u8], op: u32) -> Effect
+    ensures { λ r. ⌜ ((other : ℕ) (e : Emac) → after r (now (g .exit)) (now (mem .exit)) ≡ agreed r (ofRow row (now (g .entry)) pc sr other e (now (mem .entry)) op) sr (now (g .entry)) (now (mem .entry))) ⌝ }
+{
+    match row {
+        rows::ANDI => settled(g, sr, logic_immediate(Logic::And, &*g, pc, sr, &*mem, op)),
+        rows::EORI => settled(g, sr, logic_immediate(Logic::Eor, &*g, pc, sr, &*mem, op)),
+        rows::SUBI => settled(g, sr, sum_immediate(false, &*g, pc, &*mem, op)),
+        rows::ADDI => settled(g, sr, sum_immediate(true, &*g, pc, &*mem, op)),
+        rows::CMPI_L => compare_immediate(g, pc, sr, &*mem, op),
+        rows::BITOP_IMM => bit_by_immediate(g, pc, sr, &*mem, op),
+        rows::BITOP_DN => bit_by_register(g, pc, sr, op),
+        rows::MOVEA_L => move_address(g, pc, sr, &*mem, op),
+        rows::MOVE_L => move_long(g, pc, sr, mem, op),
+        rows::MOVE_B
+        | rows::MOVEA_W
+        | rows::MOVE_W
+        | rows::TST
+        | rows::MVS
+        | rows::MVZ
+        | rows::MULU_W
+        | rows::MULS_W => { part(row, g, pc, sr, mem, op) }
+        rows::RTS => settled(g, sr, rts(&*g, sr, &*mem)),
+        rows::EXTB => settled(g, sr, extb(&*g, pc, sr, op)),
+        rows::LINK => {
+            let c = link(&*g, pc, sr, &*mem, op);
+            stored(g, mem, sr, c)
+        }
+        rows::UNLK => settled(g, sr, unlk(&*g, pc, sr, &*mem, op)),
+        rows::SWAP => settled(g, sr, swap(&*g, pc, sr, op)),
+        rows::JSR => jsr(g, pc, sr, mem, op),
+        rows::PEA => pea(g, pc, sr, mem, op),
+        rows::MOVEM_STORE => store_registers(&*g, pc, sr, mem, op),
+        rows::MOVEM_LOAD => load_registers(g, pc, sr, &*mem, op),
+        rows::MUL_L => multiply_longs(g, pc, sr, &*mem, op),
+        rows::CLR => clear_place(g, pc, sr, mem, op),
+        rows::LEA => lea(g, pc, sr, &*mem, op),
+        rows::ADDQ_AN_L => settled(g, sr, quick_address(&*g, pc, sr, op)),
+        rows::SCC => settled(g, sr, scc(&*g, pc, sr, op)),
+        rows::ADDQ => quick_data(g, pc, sr, op),
+        rows::BRA => settled(g, sr, bra(pc, sr, &*mem, op)),
+        rows::BSR => {
+            let c = bsr(&*g, pc, sr, &*mem, op);
+            stored(g, mem, sr, c)
+        }
+        rows::BCC => bcc(g, pc, sr, op),
+        rows::MOVEQ => settled(g, sr, moveq(pc, sr, op)),
+        rows::SUBA_L => sub_to_address(g, pc, sr, &*mem, op),
+        rows::SUB_DN => sub_to_data(g, pc, sr, &*mem, op),
+        rows::CMPA_L => compare_address(g, pc, sr, &*mem, op),
+        rows::CMP => compare_data(g, pc, sr, &*mem, op),
+        rows::EOR => eor_to_data(g, pc, sr, op),
+        rows::AND_DN => and_to_data(g, pc, sr, &*mem, op),
+        rows::ADDA_L => add_to_address(g, pc, sr, &*mem, op),
+        rows::ADD_DN => add_to_data(g, pc, sr, &*mem, op),
+        rows::ASX => settled(g, sr, shift(true, &*g, pc, sr, op)),
+        rows::LSX => settled(g, sr, shift(false, &*g, pc, sr, op)),
+        _ => Effect::Left,
+    }
+}
+
+pub fn quick_step(
+    row: u8,
+    g: &mut [u32; 16],
+    acc: &mut [u64; 4],
+    pc: u32,
+    sr: u16,
+    macsr: u32,
+    mask: u32,
+    mem: &mut [u8],
+    op: u32,
+) -> Attempt
+    ensures { λ r. ⌜ ((other : ℕ) → Attempted (ofRow row (now (g .entry)) pc sr other (emacOf macsr mask (now (acc .entry))) (now (mem .entry)) op) sr macsr mask (now (g .entry)) (now (acc .entry)) (now (mem .entry)) (now (g .exit)) (now (acc .exit)) (now (mem .exit)) r) ⌝ }
+{
+    if row == rows::MAC {
+        match quick_mac(g, acc, pc, sr, macsr, mask, &*mem, op) {
+            Summed::Done(next, now) => return Attempt::Summed(next, now),
+            Summed::Left => return Attempt::Left,
+        }
+    }
+    match in_place(row, g, pc, sr, mem, op) {
+        Effect::Done(next, now) => Attempt::Done(next, now),
+        Effect::Left => Attempt::Left,
+    }
+}
