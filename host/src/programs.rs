@@ -2,10 +2,11 @@
 
 use host::State;
 
-pub const PROGRAMS: [(&str, &[u8]); 3] = [
+pub const PROGRAMS: [(&str, &[u8]); 4] = [
     ("search", include_bytes!("../programs/search.image")),
     ("copy", include_bytes!("../programs/copy.image")),
     ("dot", include_bytes!("../programs/dot.image")),
+    ("compiled", include_bytes!("../programs/compiled.image")),
 ];
 const MEMORY: usize = 49_152;
 

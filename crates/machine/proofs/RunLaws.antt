@@ -12,25 +12,38 @@ use lib.ListN.{length}
 use borrow.Author.Tests.{le-ltb}
 use Rattle.manual.specs.declared.Cpu.{Cpu}
 use Rattle.manual.specs.declared.Emac.{Emac}
-use Rattle.manual.specs.declared.Size.{Size}
+use Rattle.manual.specs.declared.Size.the-variants.{Word}
+use Rattle.manual.specs.declared.Fault.{Fault}
+use Rattle.manual.specs.declared.Fault.the-variants.{Outside}
+use Rattle.manual.specs.declared.Got.the-variants.{Value, Fault as NoValue}
 use Rattle.manual.specs.declared.Reply.{Reply}
 use Rattle.manual.specs.declared.Reply.the-variants.{Done, TooLong, NotAdmitted, Stopped, NotInside, NotCarried, OutOfRange, Masked, WrongVersion, WrongLength}
-use Rattle.manual.specs.declared.Action.{Action}
-use Rattle.manual.specs.declared.Action.the-variants.{Nothing, Store, Accumulate}
 use Rattle.manual.specs.declared.Change.{Change}
 use Rattle.manual.specs.declared.Stepped.{Stepped}
-use Rattle.manual.specs.Word.{bytes}
-use Rattle.manual.specs.Registers.{written, coded, applied, withParts, withEmac}
-use Rattle.manual.specs.Memory.{inside, stored}
-use Rattle.manual.specs.Emac.{accumulate}
+use Rattle.manual.specs.Registers.{withParts}
+use Rattle.manual.specs.Memory.{load}
+use Rattle.manual.specs.Change.{refuse, refused}
+use Rattle.manual.specs.Emac.{emacOf}
 use Rattle.manual.specs.Reply.{Outcome, outcome, completed, unchanged, refusal, isDone}
 use Rattle.manual.specs.Admitted.{admitted}
 use Rattle.instructions.specs.Perform.{perform}
-use Rattle.instructions.specs.Step.{execute, step}
+use Rattle.instructions.specs.Rows.{rowOf}
+use Rattle.instructions.specs.Step.{execute, ofRow, step}
 use Rattle.instructions.specs.Run.{RunOutcome, ended, afterOne, steps}
 use Rattle.machine.specs.declared.Progress.{Progress}
 use Rattle.machine.specs.Advance.{Advance, advance, endedAs, progress}
+use Rattle.rows.specs.RowLaws.{of-row}
 use Rattle.perform.specs.KeptLaws.{perform-admitted}
+use Rattle.inplace.specs.declared.Effect.{Effect}
+use Rattle.inplace.specs.declared.Effect.the-variants.{Done as OnPlace, Left as NotOnPlace}
+use Rattle.inplace.specs.Effects.{after as effected, agreed, inPlace}
+use Rattle.inplace.specs.PlaceLaws as place
+use Rattle.quickmac.specs.declared.Summed.the-variants.{Done as OnUnit}
+use Rattle.quickmac.specs.Units.{afterMac, inUnit}
+use Rattle.quickmac.specs.UnitLaws.{summed-performed}
+use Rattle.quick.specs.declared.Attempt.{Attempt}
+use Rattle.quick.specs.declared.Attempt.the-variants.{Done as InPlace, Summed as InUnit, Left}
+use Rattle.quick.specs.Attempts.{Attempted}
 
 -- ---- a run over a step, which stays shut
 
@@ -107,35 +120,105 @@ module _ (g : List ℕ) (pc sr : ℕ) (e : Emac) (rest : Cpu) (m : List ℕ) (l 
     unfolding step withParts
     any = rw (le-ltb 0x100_0000 (length m) l, a, w, ← q)
 
-    pub performed : (t : Stepped) (m′ : List ℕ) (s : Cpu) → s ≡ state → outcome t m′ ≡ perform s c m → outcome t m′ ≡ step state m
-    performed t m′ s p h = h ∙ ap (λ (u : Cpu). perform u c m) p ∙ sym any
-
     pub kept : (t : Stepped) (m′ : List ℕ) → outcome t m′ ≡ step state m → admitted (t .cpu) ≡ true
     kept t m′ h = ap (λ (o : Outcome). admitted (o .stepped .cpu)) (h ∙ any) ∙ perform-admitted state c m a
 
-    module _ (g1 g2 : List ℕ) (sr′ : ℕ) (e1 : g1 ≡ written (c .first) g) (e2 : g2 ≡ written (c .second) g1) (e3 : sr′ ≡ coded sr (c .ccr)) where
-      changed : applied state c ≡ withParts g2 (c .pc) sr′ e rest
-      unfolding applied withParts
-      changed = rw (← e1, ← e2, ← e3)
+-- ---- a turn of the loop, once its word is fetched and its row is known
 
-      pub nothing : c .action ≡ Nothing → completed (withParts g2 (c .pc) sr′ e rest) 0 m ≡ step state m
-      unfolding perform
-      nothing h = rw (any, changed, h)
+pub record Turn (b k v : ℕ) (whole : Advance) (g : List ℕ) (pc sr : ℕ) (e : Emac) (rest : Cpu) (m : List ℕ) (op row : ℕ) : Type 0 where
+  pub more : k < b
+  pub fit : length m ≤ 0x100_0000
+  pub sound : admitted (withParts g pc sr e rest) ≡ true
+  pub going : rest .stopped ≡ false
+  pub word : load m pc Word ≡ Value op
+  pub is-row : row ≡ rowOf op
+  pub inv : progress (b - k) k v (withParts g pc sr e rest) m ≡ whole
 
-      pub storing : (at : ℕ) (z : Size) (v : ℕ) (r : Bool) (m′ : List ℕ) → c .action ≡ Store at z v → (r ≡ inside m at (bytes z)) × (m′ ≡ cond r (stored m at z v) m) → r ≡ true
-          → completed (withParts g2 (c .pc) sr′ e rest) 0 m′ ≡ step state m
-      unfolding perform
-      storing at z v r m′ h p t = rw (any, changed, h, p .1, ← p .0, t)
+module _ (b k v : ℕ) (whole : Advance) (g : List ℕ) (pc sr : ℕ) (e : Emac) (rest : Cpu) (m : List ℕ) (op row : ℕ) (t : Turn b k v whole g pc sr e rest m op row) where
+  abbrev now : Cpu
+  now = withParts g pc sr e rest
 
-      pub accumulating : (i s : ℕ) (sub : Bool) (x y : ℕ) (e′ : Emac) → c .action ≡ Accumulate i s sub x y → e′ ≡ accumulate e i s sub x y
-          → completed (withParts g2 (c .pc) sr′ e′ rest) 0 m ≡ step state m
-      unfolding perform withEmac withParts
-      accumulating i s sub x y e′ h p = rw (any, changed, h, p)
+  abbrev c : Change
+  c = ofRow row g pc sr (rest .other) e m op
 
-    pub outside : (at : ℕ) (z : Size) (v : ℕ) (r : Bool) (m′ : List ℕ) (s : Cpu) → c .action ≡ Store at z v → (r ≡ inside m at (bytes z)) × (m′ ≡ cond r (stored m at z v) m) → r ≡ false → s ≡ state
-        → outcome (refusedAs NotInside s) m′ ≡ step state m
-    unfolding perform refusal
-    outside at z v r m′ s h p f q = rw (any, h, p .1, ← p .0, f, q)
+  fetched : c ≡ execute g pc sr (rest .other) e m
+  unfolding execute
+  fetched = rw (t .word, t .is-row) (of-row g pc sr (rest .other) e m op)
+
+  is-step : step now m ≡ perform now c m
+  is-step = any g pc sr e rest m (t .fit) (t .sound) (t .going) c fetched
+
+  -- on the whole state
+  pub performed : (r : Stepped) (m′ : List ℕ) (s : Cpu) → s ≡ now → outcome r m′ ≡ perform s (ofRow row (s .r) (s .pc) (s .sr) (s .other) (s .emac) m op) m
+      → outcome r m′ ≡ step now m
+  unfolding withParts
+  performed r m′ s q h = (rw q at h) ∙ sym is-step
+
+  pub admits : (r : Stepped) (m′ : List ℕ) → outcome r m′ ≡ step now m → admitted (r .cpu) ≡ true
+  admits r m′ h = kept g pc sr e rest m (t .fit) (t .sound) (t .going) c fetched r m′ h
+
+  pub goes-on : (r : Stepped) (m′ : List ℕ) → outcome r m′ ≡ step now m → r .reply ≡ Done → progress (b - (k + 1)) (k + 1) (r .vector) (r .cpu) m′ ≡ whole
+  goes-on r m′ h d = on b k v whole now m (t .inv) r m′ (t .more) h d
+
+  pub stops-here : (r : Stepped) (m′ : List ℕ) → outcome r m′ ≡ step now m → isDone (r .reply) ≡ false → advance (endedAs (r .reply) k 0 (r .cpu)) m′ ≡ whole
+  stops-here r m′ h d = stops b k v whole now m (t .inv) r m′ (t .more) h d
+
+-- in parts: what is done in place is the step, and what is left undone leaves the turn as it was
+module _ (b k v : ℕ) (whole : Advance) (g : List ℕ) (pc sr macsr mask : ℕ) (acc : List ℕ) (rest : Cpu) (m : List ℕ) (op row : ℕ)
+    (t : Turn b k v whole g pc sr (emacOf macsr mask acc) rest m op row) (g′ acc′ m′ : List ℕ) where
+  abbrev unit : Emac
+  unit = emacOf macsr mask acc
+
+  abbrev change : Change
+  change = ofRow row g pc sr (rest .other) unit m op
+
+  abbrev goal : Outcome
+  goal = step (withParts g pc sr unit rest) m
+
+  as-left : (g′ ≡ g) × (acc′ ≡ acc) × (m′ ≡ m) → Turn b k v whole g′ pc sr (emacOf macsr mask acc′) rest m′ op row
+  as-left p = record {
+    more = t .more;
+    fit = rw (p .2) (t .fit);
+    sound = rw (p .0, p .1) (t .sound);
+    going = t .going;
+    word = rw (p .2) (t .word);
+    is-row = t .is-row;
+    inv = rw (p .0, p .1, p .2) (t .inv);
+  }
+
+  as-placed : (pc′ sr′ : ℕ) → (effected (OnPlace pc′ sr′) g′ m′ ≡ inPlace change sr g m) × (acc′ ≡ acc)
+      → completed (withParts g′ pc′ sr′ (emacOf macsr mask acc′) rest) 0 m′ ≡ goal
+  as-placed pc′ sr′ p =
+      rw (p .1) (place.performed g pc sr unit rest m change pc′ sr′ g′ m′ (p .0) ∙ sym (is-step b k v whole g pc sr unit rest m op row t))
+
+  module _ (r : Attempt) (h : Attempted change sr macsr mask g acc m g′ acc′ m′ r) where
+    pub again : r ≡ Left → Turn b k v whole g′ pc sr (emacOf macsr mask acc′) rest m′ op row
+    again q = as-left (rw q at h)
+
+    pub in-place : (pc′ sr′ : ℕ) → r ≡ InPlace pc′ sr′ → completed (withParts g′ pc′ sr′ (emacOf macsr mask acc′) rest) 0 m′ ≡ goal
+    in-place pc′ sr′ q = as-placed pc′ sr′ (rw q at h)
+
+    pub in-unit : (pc′ macsr′ : ℕ) → r ≡ InUnit pc′ macsr′ → completed (withParts g′ pc′ sr (emacOf macsr′ mask acc′) rest) 0 m′ ≡ goal
+    in-unit pc′ macsr′ q =
+        let p : (afterMac (OnUnit pc′ macsr′) sr macsr mask acc′ g′ ≡ inUnit change sr unit g) × (m′ ≡ m) = rw q at h in
+        rw (p .1)
+        (summed-performed g pc sr unit rest m change pc′ (emacOf macsr′ mask acc′) g′ (p .0) ∙ sym (is-step b k v whole g pc sr unit rest m op row t))
+
+  -- the same of the plain engine, which leaves the accumulators alone
+  module _ (r : Effect) (h : effected r g′ m′ ≡ agreed r change sr g m) (same : acc′ ≡ acc) where
+    pub again-plain : r ≡ NotOnPlace → Turn b k v whole g′ pc sr (emacOf macsr mask acc′) rest m′ op row
+    again-plain q =
+        let p : effected NotOnPlace g′ m′ ≡ effected NotOnPlace g m = rw q at h in
+        as-left (place.left-registers g m g′ m′ p, same, place.left-memory g m g′ m′ p)
+
+    pub in-place-plain : (pc′ sr′ : ℕ) → r ≡ OnPlace pc′ sr′ → completed (withParts g′ pc′ sr′ (emacOf macsr mask acc′) rest) 0 m′ ≡ goal
+    in-place-plain pc′ sr′ q = as-placed pc′ sr′ (rw q at h, same)
+
+-- a word that is not inside memory
+pub unfetched : (g : List ℕ) (pc sr : ℕ) (e : Emac) (rest : Cpu) (m : List ℕ) (l : length m ≤ 0x100_0000) (a : admitted (withParts g pc sr e rest) ≡ true) (w : rest .stopped ≡ false)
+    (x : Fault) → load m pc Word ≡ NoValue x → (s : Cpu) → s ≡ withParts g pc sr e rest → outcome (refusedAs NotInside s) m ≡ step (withParts g pc sr e rest) m
+unfolding execute refused refuse perform refusal
+unfetched g pc sr e rest m l a w Outside f s q = rw (any g pc sr e rest m l a w (execute g pc sr (rest .other) e m) refl, f, q)
 
 -- ---- the definition's run
 

@@ -1,5 +1,6 @@
 // The machine: steps and runs.
 pub mod run;
+mod turn;
 
 use manual::Cpu;
 use manual::Reply;

@@ -1,10 +1,9 @@
 // Steps and runs.
 use super::Progress;
-use emac::mac::accumulate_in;
+use super::turn::performed;
+use super::turn::plain;
 use exceptions::entry::refusal;
-use execute::instruction;
-use manual::Action;
-use manual::Change;
+use inplace::Effect;
 use manual::Cpu;
 use manual::Emac;
 use manual::Got;
@@ -13,16 +12,12 @@ use manual::Reply;
 use manual::Size;
 use manual::Stepped;
 use memory::load;
-use memory::store;
-use perform::perform;
 use quick::Attempt;
 use quick::quick_step;
 use rows::row_by;
 use rows::top_rows;
 use statusregister::admitted;
-use word::registers::coded;
 use word::registers::with_parts;
-use word::registers::write;
 ghost use mathlib.Core.Path.{_≡_};
 ghost use mathlib.Core.Bool.{true};
 ghost use Prim.Native.Nat.{_+_, _*_, _/_, _%_, _≤_};
@@ -31,8 +26,7 @@ ghost use Rattle.manual.specs.Registers.{withParts};
 ghost use Rattle.manual.specs.Emac.{emacOf};
 ghost use Rattle.manual.specs.Reply.{outcome};
 ghost use Rattle.manual.specs.Admitted.{admitted as admittedOf};
-ghost use Rattle.instructions.specs.Perform.{perform as performOf};
-ghost use Rattle.instructions.specs.Step.{execute as executeOf, step as stepOf};
+ghost use Rattle.instructions.specs.Step.{step as stepOf};
 ghost use Rattle.instructions.specs.Run.{runOutcome, run as runOf};
 ghost use Rattle.rows.specs.Top.{Sound};
 ghost use Rattle.machine.specs.Advance.{advance, endedAs, progress};
@@ -111,46 +105,32 @@ fn advanced(top: &[u8], given: Cpu, mem: &mut [u8], budget: u32) -> Progress
             }
             Attempt::Left => {}
         }
-        let change = instruction(row, &g, pc, sr, rest.other, macsr, mask, &acc, &*mem, op);
-        let first = change.first;
-        let second = change.second;
-        let action = change.action;
-        match action {
-            Action::Nothing => {}
-            Action::Store(a, z, v) => {
-                if !store(mem, a, z, v) {
-                    let last = together(rest, g, pc, sr, macsr, mask, acc);
-                    return ended(Reply::NotInside, n, 0, last);
-                }
-            }
-            Action::Accumulate(i, scale, sub, x, y) => {
-                macsr = accumulate_in(macsr, mask, &mut acc, i, scale, sub, x, y);
-            }
-            _ => {
-                let held = together(rest, g, pc, sr, macsr, mask, acc);
-                let stepped = perform(held, change, mem);
-                let next = stepped.cpu;
-                let reply = stepped.reply;
-                let Reply::Done = reply else {
-                    return ended(reply, n, 0, next);
-                };
-                rest = next;
-                g = next.r;
-                pc = next.pc;
-                sr = next.sr;
-                macsr = next.emac.macsr;
-                mask = next.emac.mask;
-                acc = next.emac.acc;
-                vector = stepped.vector;
+        let other = rest.other;
+        match plain(row, &mut g, pc, sr, other, macsr, mask, &acc, mem, op) {
+            Effect::Done(next, now) => {
+                pc = next;
+                sr = now;
+                vector = 0;
                 n = done;
                 continue;
             }
+            Effect::Left => {}
         }
-        write(&mut g, first);
-        write(&mut g, second);
-        pc = change.pc;
-        sr = coded(sr, change.ccr);
-        vector = 0;
+        let held = together(rest, g, pc, sr, macsr, mask, acc);
+        let stepped = performed(row, held, mem, op);
+        let next = stepped.cpu;
+        let reply = stepped.reply;
+        let Reply::Done = reply else {
+            return ended(reply, n, 0, next);
+        };
+        rest = next;
+        g = next.r;
+        pc = next.pc;
+        sr = next.sr;
+        macsr = next.emac.macsr;
+        mask = next.emac.mask;
+        acc = next.emac.acc;
+        vector = stepped.vector;
         n = done;
     }
     let last = together(rest, g, pc, sr, macsr, mask, acc);

@@ -18,6 +18,8 @@ mod fast;
 mod jit;
 #[path = "../oracle/oracle.rs"]
 mod oracle;
+#[path = "../loops.rs"]
+mod loops;
 #[path = "../programs.rs"]
 mod programs;
 #[path = "../random.rs"]
@@ -439,6 +441,15 @@ fn long_runs(c: &mut Compare, r: &mut Random) {
     }
 }
 
+/// Thousands of steps in one run, of the quick path and of the plain engine in turn.
+fn mixed_loops(c: &mut Compare, r: &mut Random) {
+    for i in 0..512u32 {
+        let (s, mem) = loops::mixed(r);
+        let budget = if i % 4 == 0 { r.below(4000) } else { 20_000 };
+        c.check("mixed loops", Case::of(Call::Run(budget), &s, mem));
+    }
+}
+
 fn calls(c: &mut Compare, r: &mut Random) {
     for i in 0..8192u32 {
         let supervisor = r.of_100(60);
@@ -693,6 +704,7 @@ pub extern "C" fn main() -> i32 {
         edges(&mut c, &mut r);
         runs(&mut c, &mut r);
         long_runs(&mut c, &mut r);
+        mixed_loops(&mut c, &mut r);
         calls(&mut c, &mut r);
         refused(&mut c, &mut r);
         large(&mut c, &mut r, round);

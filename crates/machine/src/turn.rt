@@ -1,0 +1,55 @@
+// One instruction by the plain engine, its word and row being known.
+use execute::instruction;
+use inplace::Effect;
+use inplace::carried_out;
+use manual::Cpu;
+use manual::Stepped;
+use perform::perform;
+ghost use mathlib.Core.Path.{_≡_};
+ghost use Rattle.manual.specs.Emac.{emacOf};
+ghost use Rattle.manual.specs.Reply.{outcome};
+ghost use Rattle.instructions.specs.Perform.{perform as performOf};
+ghost use Rattle.instructions.specs.Step.{ofRow};
+ghost use Rattle.inplace.specs.Effects.{after, agreed};
+
+// In place, or left. Apart from the loop, so that what is rare takes no room there.
+pub(crate) fn plain(
+    row: u8,
+    g: &mut [u32; 16],
+    pc: u32,
+    sr: u16,
+    other: u32,
+    macsr: u32,
+    mask: u32,
+    acc: &[u64; 4],
+    mem: &mut [u8],
+    op: u32,
+) -> Effect
+    ensures { λ r. ⌜ after r (now (g .exit)) (now (mem .exit)) ≡ agreed r (ofRow row (now (g .entry)) pc sr other (emacOf macsr mask (now (acc .entry))) (now (mem .entry)) op) sr (now (g .entry)) (now (mem .entry)) ⌝ }
+{
+    let c = instruction(row, &*g, pc, sr, other, macsr, mask, acc, &*mem, op);
+    carried_out(g, mem, sr, c)
+}
+
+// On a whole state, where it is not done in place.
+pub(crate) fn performed(row: u8, held: Cpu, mem: &mut [u8], op: u32) -> Stepped
+    ensures { λ r. ⌜ outcome r (now (mem .exit)) ≡ performOf held (ofRow row (held .r) (held .pc) (held .sr) (held .other) (held .emac) (now (mem .entry)) op) (now (mem .entry)) ⌝ }
+{
+    let g = held.r;
+    let acc = held.emac.acc;
+    let macsr = held.emac.macsr;
+    let mask = held.emac.mask;
+    let c = instruction(
+        row,
+        &g,
+        held.pc,
+        held.sr,
+        held.other,
+        macsr,
+        mask,
+        &acc,
+        &*mem,
+        op,
+    );
+    perform(held, c, mem)
+}
