@@ -1,13 +1,21 @@
 -- A change that accumulates, done in place: its registers and its sum. Any other change is left undone.
-use Prim.Native.Nat.{ℕ}
+use Prim.Native.Nat.{ℕ, _+_, _-_, _*_, _/_, _%_}
 use mathlib.Core.Bool.{Bool, true, false}
 use mathlib.Core.List.{List}
+use Rattle.manual.specs.declared.Size.the-variants.{Long}
+use Rattle.manual.specs.declared.Write.{Write}
 use Rattle.manual.specs.declared.Emac.{Emac}
 use Rattle.manual.specs.declared.Action.{Action}
 use Rattle.manual.specs.declared.Action.the-variants.{Nothing, Store, StoreMany, LoadMany, Enter, Return, Status, Stop, PushStatus, Halt, Other, Accumulate, SetAcc, SetExt, SetMacsr, SetMask, CopyAcc, ClearAcc, Refuse}
 use Rattle.manual.specs.declared.Change.{Change}
-use Rattle.manual.specs.Registers.{written, coded}
+use Rattle.manual.specs.Registers.{general, writeGeneral, written, coded}
+use Rattle.manual.specs.Flags.{keptCodes}
+use Rattle.manual.specs.Memory.{load}
+use Rattle.manual.specs.Change.{reading}
 use Rattle.manual.specs.Emac.{emacOf, accumulate}
+use Rattle.instructions.specs.LineA.{highRegister, accumulating}
+use Rattle.near.specs.declared.Spot.{Spot}
+use Rattle.near.specs.declared.Spot.the-variants.{At, Far}
 use Rattle.quickmac.specs.declared.Summed.{Summed}
 use Rattle.quickmac.specs.declared.Summed.the-variants.{Done, Left}
 use Rattle.quickmac.specs.declared.Product.{Product}
@@ -75,3 +83,21 @@ onceSummed NoProduct sr e g = undone sr g e
 abbrev pub agreedProduct : Product → Change → ℕ → Emac → List ℕ → AfterMac
 agreedProduct (Of next i scale sub x y) c sr e g = inUnit c sr e g
 agreedProduct NoProduct c sr e g = undone sr g e
+
+-- ---- a load
+
+-- the change that loads v
+abbrev pub loading : List ℕ → ℕ → ℕ → ℕ → ℕ → ℕ → Write → Change
+loading g sr op w v next step =
+    record {
+      pc = next;
+      ccr = keptCodes sr;
+      first = writeGeneral (highRegister op) v;
+      second = step;
+      action = accumulating w (1 - op / 128 % 2 + w / 16 % 2 * 2) (general g (w / 0x1000)) (general g w);
+    }
+
+-- the change that loads from a spot. `Far` says nothing
+abbrev pub fromSpot : Spot → List ℕ → ℕ → List ℕ → ℕ → ℕ → Change → Change
+fromSpot (At a next step) g sr m op w c = reading (load m a Long) λ v. loading g sr op w v next step
+fromSpot Far g sr m op w c = c
