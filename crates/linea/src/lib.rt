@@ -1,3 +1,3 @@
-mod mac;
+pub mod mac;
 mod moves;
 pub mod rowsa;

@@ -52,7 +52,7 @@ fn load_moves(op: u32, a: u32) -> Write
     }
 }
 
-fn load_address(mask: u32, w: u32, base: u32) -> u32
+pub fn load_address(mask: u32, w: u32, base: u32) -> u32
     ensures { λ r. ⌜ r ≡ loadAddress mask w base ⌝ }
 {
     if w / 32 % 2 == 1 { base & mask } else { base }

@@ -1,5 +1,6 @@
 // MAC and MSAC of longs, done in place.
 use emac::mac::accumulate_fraction;
+use linea::mac::load_address;
 use manual::Got;
 use manual::Size;
 use memory::load;
@@ -17,7 +18,7 @@ ghost use mathlib.Core.Path.{_≡_};
 ghost use Prim.Native.Nat.{ℕ, _+_, _*_, _/_, _%_};
 ghost use Rattle.manual.specs.declared.Emac.{Emac};
 ghost use Rattle.manual.specs.Emac.{emacOf};
-ghost use Rattle.instructions.specs.LineA.{macRegisters, loadAddress, macWithLoad, mac};
+ghost use Rattle.instructions.specs.LineA.{macRegisters, macWithLoad, mac};
 ghost use Rattle.quickmac.specs.Units.{onceSummed, agreedProduct, fromSpot, afterMac, agreedMac};
 
 // Done, with the next address and MACSR; or left undone, with nothing changed.
@@ -41,12 +42,6 @@ fn mac_registers(g: &[u32; 16], pc: u32, op: u32, w: u32) -> Product
     let x = general(g, op / 64 % 2 * 8 + op / 512 % 8);
     let y = general(g, op);
     Product::Of(plus(pc, 4), i, w / 512 % 4, w / 256 % 2 == 1, x, y)
-}
-
-fn load_address(mask: u32, w: u32, base: u32) -> u32
-    ensures { λ r. ⌜ r ≡ loadAddress mask w base ⌝ }
-{
-    if w / 32 % 2 == 1 { base & mask } else { base }
 }
 
 // Where the long is, and the move of its register from there. Far: modes 6 and 7, which are no MAC, and a displacement outside. One
