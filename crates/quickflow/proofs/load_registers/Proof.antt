@@ -6,57 +6,7 @@ use Rattle.instructions.specs.Line4.{moveMany, many}
 use borrow.Author.Needs.{needs}
 use Rattle.quickflow.proofs.load_registers.Statement.{statement}
 use Rattle.quickflow.proofs.load_registers.Tie as tie
-use Rattle.quickflow.proofs.load_registers.Reads as reads
-use Rattle.quickflow.proofs.load_registers.Lts as lts
-use Rattle.memory.proofs.load.Reads as load-reads
-use Rattle.memory.proofs.many.load_many.Reads as load-many-reads
-use Rattle.word.proofs.flags.kept_codes.Reads as kept-codes-reads
-use Rattle.word.proofs.registers.address.Reads as address-reads
-use Rattle.word.proofs.registers.coded.Reads as coded-reads
-use Rattle.word.proofs.word.plus.Reads as plus-reads
-use Rattle.word.proofs.word.sign_extended.Reads as sign-extended-reads
 
--- src/lib.rt:102:9
-plus-requires : tie.Need-plus-requires
-plus-requires c κs = search needs
-
--- src/lib.rt:103:22
-load-requires : tie.Need-load-requires
-load-requires c κs = search needs
-
--- src/lib.rt:104:20
-enum-known-mask : tie.Need-enum-known-mask
-enum-known-mask c = search needs
-
--- src/lib.rt:105:26
-enum-told : tie.Need-enum-told
-enum-told c = search needs
-
--- src/lib.rt:105:26
-returns : tie.Need-returns
-returns c = search needs
-
--- src/lib.rt:107:9
-address-requires : tie.Need-address-requires
-address-requires c κs = search needs
-
--- src/lib.rt:108:26
-kept-codes-requires : tie.Need-kept-codes-requires
-kept-codes-requires c κs = search needs
-
--- src/lib.rt:108:9
-coded-requires : tie.Need-coded-requires
-coded-requires c κs = search needs
-
--- src/lib.rt:110:12
-load-many-requires : tie.Need-load-many-requires
-load-many-requires c κs = search needs
-
--- src/lib.rt:111:33
-plus-requires-2 : tie.Need-plus-requires-2
-plus-requires-2 c κs = search needs
-
--- src/lib.rt:111:13
 returns-2 : tie.Need-returns-2
 unfolding inPlace moveMany many acting written noWrite
 returns-2 c =
@@ -64,53 +14,11 @@ returns-2 c =
     let s = c2 .load-many in
     rw (← c13 .plus .ensures, ← c12 .load .ensures, c10 .mask .given .1, eq-eqb _ _ (c4 .if1 .taken), ← c7 .address .ensures, ← c6 .kept-codes .ensures, ← c5 .coded .ensures, ← c .plus2 .ensures, ← s .ensures .0, s .ensures .1, c1 .if2 .taken)
 
--- src/lib.rt:113:9
 returns-3 : tie.Need-returns-3
 returns-3 c =
     let c1 = c .before in
     rw (c1 .load-many .ensures .1, c .if2 .left)
 
--- src/lib.rt:116:9
-returns-4 : tie.Need-returns-4
-returns-4 c = search needs
-
--- src/lib.rt:118:29
-plus-requires-3 : tie.Need-plus-requires-3
-plus-requires-3 c κs = search needs
-
--- src/lib.rt:118:19
-load-requires-2 : tie.Need-load-requires-2
-load-requires-2 c κs = search needs
-
--- src/lib.rt:119:20
-enum-known-d : tie.Need-enum-known-d
-enum-known-d c = search needs
-
--- src/lib.rt:120:26
-enum-told-2 : tie.Need-enum-told-2
-enum-told-2 c = search needs
-
--- src/lib.rt:120:26
-returns-5 : tie.Need-returns-5
-returns-5 c = search needs
-
--- src/lib.rt:122:21
-sign-extended-requires : tie.Need-sign-extended-requires
-sign-extended-requires c κs = search needs
-
--- src/lib.rt:122:9
-plus-requires-4 : tie.Need-plus-requires-4
-plus-requires-4 c κs = search needs
-
--- src/lib.rt:123:8
-load-many-requires-2 : tie.Need-load-many-requires-2
-load-many-requires-2 c κs = search needs
-
--- src/lib.rt:124:29
-plus-requires-5 : tie.Need-plus-requires-5
-plus-requires-5 c κs = search needs
-
--- src/lib.rt:124:9
 returns-6 : tie.Need-returns-6
 unfolding inPlace moveMany many acting written noWrite
 returns-6 c =
@@ -118,7 +26,6 @@ returns-6 c =
     let s = c2 .load-many2 in
     rw (← c21 .plus .ensures, ← c20 .load .ensures, c18 .mask .given .1, ne-eqb _ _ (c12 .if1 .left), eq-eqb _ _ (c11 .if3 .left), ← c15 .address .ensures, ← c10 .plus3 .ensures, ← c9 .load2 .ensures, c7 .d .given .1, ← c5 .sign-extended .ensures, ← c4 .plus4 .ensures, ← c14 .kept-codes .ensures, ← c13 .coded .ensures, ← c .plus5 .ensures, ← s .ensures .0, s .ensures .1, c1 .if4 .taken)
 
--- src/lib.rt:99:1
 returns-7 : tie.Need-returns-7
 returns-7 c =
     let c1 = c .before in
@@ -128,27 +35,27 @@ pub load-registers-spec : {M : Type 1} → statement M
 load-registers-spec =
     tie.close
     (tie.spec
-    plus-requires
-    load-requires
-    enum-known-mask
-    enum-told
-    returns
-    address-requires
-    kept-codes-requires
-    coded-requires
-    load-many-requires
-    plus-requires-2
+    (λ c κs. search needs)
+    (λ c κs. search needs)
+    (λ c. search needs)
+    (λ c. search needs)
+    (λ c. search needs)
+    (λ c κs. search needs)
+    (λ c κs. search needs)
+    (λ c κs. search needs)
+    (λ c κs. search needs)
+    (λ c κs. search needs)
     returns-2
     returns-3
-    returns-4
-    plus-requires-3
-    load-requires-2
-    enum-known-d
-    enum-told-2
-    returns-5
-    sign-extended-requires
-    plus-requires-4
-    load-many-requires-2
-    plus-requires-5
+    (λ c. search needs)
+    (λ c κs. search needs)
+    (λ c κs. search needs)
+    (λ c. search needs)
+    (λ c. search needs)
+    (λ c. search needs)
+    (λ c κs. search needs)
+    (λ c κs. search needs)
+    (λ c κs. search needs)
+    (λ c κs. search needs)
     returns-6
     returns-7)

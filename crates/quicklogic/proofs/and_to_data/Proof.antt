@@ -4,71 +4,7 @@ use Rattle.near.specs.Near.{read as readOf}
 use borrow.Author.Needs.{needs}
 use Rattle.quicklogic.proofs.and_to_data.Statement.{statement}
 use Rattle.quicklogic.proofs.and_to_data.Tie as tie
-use Rattle.quicklogic.proofs.and_to_data.Reads as reads
-use Rattle.quicklogic.proofs.and_to_data.Lts as lts
-use Rattle.address.proofs.changes.done.Reads as done-reads
-use Rattle.inplace.proofs.settled.Reads as settled-reads
-use Rattle.near.proofs.longs.long_move_codes.Reads as long-move-codes-reads
-use Rattle.near.proofs.operands.read_long.Reads as read-long-reads
-use Rattle.word.proofs.bits.logic.Reads as logic-reads
-use Rattle.word.proofs.registers.data.Reads as data-reads
-use Rattle.word.proofs.registers.write_data.Reads as write-data-reads
-use Rattle.word.proofs.word.merged.Reads as merged-reads
-use Rattle.word.proofs.word.plus.Reads as plus-reads
 
--- src/lib.rt:39:9
-returns : tie.Need-returns
-returns c = search needs
-
--- src/lib.rt:41:61
-plus-requires : tie.Need-plus-requires
-plus-requires c κs = search needs
-
--- src/lib.rt:41:41
-read-long-requires : tie.Need-read-long-requires
-read-long-requires c κs = search needs
-
--- src/lib.rt:41:23
-enum-known-v : tie.Need-enum-known-v
-enum-known-v c = search needs
-
--- src/lib.rt:42:9
-enum-told : tie.Need-enum-told
-enum-told c = search needs
-
--- src/lib.rt:42:9
-returns-2 : tie.Need-returns-2
-returns-2 c = search needs
-
--- src/lib.rt:44:9
-data-requires : tie.Need-data-requires
-data-requires c κs = search needs
-
--- src/lib.rt:45:9
-logic-requires : tie.Need-logic-requires
-logic-requires c κs = search needs
-
--- src/lib.rt:46:9
-long-move-codes-requires : tie.Need-long-move-codes-requires
-long-move-codes-requires c κs = search needs
-
--- src/lib.rt:47:9
-merged-requires : tie.Need-merged-requires
-merged-requires c κs = search needs
-
--- src/lib.rt:48:45
-write-data-requires : tie.Need-write-data-requires
-write-data-requires c κs = search needs
-
--- src/lib.rt:48:20
-done-requires : tie.Need-done-requires
-done-requires c κs = search needs
-
--- src/lib.rt:48:5
-settled-requires : tie.Need-settled-requires
-settled-requires c κs = search needs
-
--- src/lib.rt:35:1
 returns-3 : tie.Need-returns-3
 unfolding logicToDataOf sizeOfOf
 returns-3 c =
@@ -79,17 +15,17 @@ pub and-to-data-spec : {M : Type 1} → statement M
 and-to-data-spec =
     tie.close
     (tie.spec
-    returns
-    plus-requires
-    read-long-requires
-    enum-known-v
-    enum-told
-    returns-2
-    data-requires
-    logic-requires
-    long-move-codes-requires
-    merged-requires
-    write-data-requires
-    done-requires
-    settled-requires
+    (λ c. search needs)
+    (λ c κs. search needs)
+    (λ c κs. search needs)
+    (λ c. search needs)
+    (λ c. search needs)
+    (λ c. search needs)
+    (λ c κs. search needs)
+    (λ c κs. search needs)
+    (λ c κs. search needs)
+    (λ c κs. search needs)
+    (λ c κs. search needs)
+    (λ c κs. search needs)
+    (λ c κs. search needs)
     returns-3)

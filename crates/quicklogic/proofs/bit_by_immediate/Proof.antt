@@ -4,50 +4,7 @@ use borrow.Author.Tests.{eq-eqb}
 use borrow.Author.Needs.{needs}
 use Rattle.quicklogic.proofs.bit_by_immediate.Statement.{statement}
 use Rattle.quicklogic.proofs.bit_by_immediate.Tie as tie
-use Rattle.quicklogic.proofs.bit_by_immediate.Reads as reads
-use Rattle.quicklogic.proofs.bit_by_immediate.Lts as lts
-use Rattle.inplace.proofs.settled.Reads as settled-reads
-use Rattle.lines0to3.proofs.line0.bit_of_data.Reads as bit-of-data-reads
-use Rattle.memory.proofs.load.Reads as load-reads
-use Rattle.word.proofs.word.plus.Reads as plus-reads
 
--- src/lib.rt:99:9
-returns : tie.Need-returns
-returns c = search needs
-
--- src/lib.rt:101:29
-plus-requires : tie.Need-plus-requires
-plus-requires c κs = search needs
-
--- src/lib.rt:101:19
-load-requires : tie.Need-load-requires
-load-requires c κs = search needs
-
--- src/lib.rt:102:20
-enum-known-n : tie.Need-enum-known-n
-enum-known-n c = search needs
-
--- src/lib.rt:103:26
-enum-told : tie.Need-enum-told
-enum-told c = search needs
-
--- src/lib.rt:103:26
-returns-2 : tie.Need-returns-2
-returns-2 c = search needs
-
--- src/lib.rt:105:37
-plus-requires-2 : tie.Need-plus-requires-2
-plus-requires-2 c κs = search needs
-
--- src/lib.rt:105:20
-bit-of-data-requires : tie.Need-bit-of-data-requires
-bit-of-data-requires c κs = search needs
-
--- src/lib.rt:105:5
-settled-requires : tie.Need-settled-requires
-settled-requires c κs = search needs
-
--- src/lib.rt:95:1
 returns-3 : tie.Need-returns-3
 unfolding bitByImmediateOf bitOperationOf
 returns-3 c =
@@ -58,13 +15,13 @@ pub bit-by-immediate-spec : {M : Type 1} → statement M
 bit-by-immediate-spec =
     tie.close
     (tie.spec
-    returns
-    plus-requires
-    load-requires
-    enum-known-n
-    enum-told
-    returns-2
-    plus-requires-2
-    bit-of-data-requires
-    settled-requires
+    (λ c. search needs)
+    (λ c κs. search needs)
+    (λ c κs. search needs)
+    (λ c. search needs)
+    (λ c. search needs)
+    (λ c. search needs)
+    (λ c κs. search needs)
+    (λ c κs. search needs)
+    (λ c κs. search needs)
     returns-3)

@@ -9,76 +9,7 @@ use Rattle.manual.specs.Change.{put as putOf}
 use borrow.Author.Needs.{needs}
 use Rattle.quicklogic.proofs.eor_to_data.Statement.{statement}
 use Rattle.quicklogic.proofs.eor_to_data.Tie as tie
-use Rattle.quicklogic.proofs.eor_to_data.Reads as reads
-use Rattle.quicklogic.proofs.eor_to_data.Lts as lts
-use Rattle.address.proofs.changes.done.Reads as done-reads
-use Rattle.inplace.proofs.settled.Reads as settled-reads
-use Rattle.near.proofs.longs.long_move_codes.Reads as long-move-codes-reads
-use Rattle.word.proofs.bits.logic.Reads as logic-reads
-use Rattle.word.proofs.registers.data.Reads as data-reads
-use Rattle.word.proofs.registers.no_write.Reads as no-write-reads
-use Rattle.word.proofs.registers.write_data.Reads as write-data-reads
-use Rattle.word.proofs.word.cut.Reads as cut-reads
-use Rattle.word.proofs.word.merged.Reads as merged-reads
-use Rattle.word.proofs.word.plus.Reads as plus-reads
 
--- src/lib.rt:56:9
-returns : tie.Need-returns
-returns c = search needs
-
--- src/lib.rt:59:9
-returns-2 : tie.Need-returns-2
-returns-2 c = search needs
-
--- src/lib.rt:61:21
-plus-requires : tie.Need-plus-requires
-plus-requires c κs = search needs
-
--- src/lib.rt:61:9
-plus-requires-2 : tie.Need-plus-requires-2
-plus-requires-2 c κs = search needs
-
--- src/lib.rt:62:9
-data-requires : tie.Need-data-requires
-data-requires c κs = search needs
-
--- src/lib.rt:63:31
-cut-requires : tie.Need-cut-requires
-cut-requires c κs = search needs
-
--- src/lib.rt:63:53
-data-requires-2 : tie.Need-data-requires-2
-data-requires-2 c κs = search needs
-
--- src/lib.rt:63:9
-logic-requires : tie.Need-logic-requires
-logic-requires c κs = search needs
-
--- src/lib.rt:64:9
-long-move-codes-requires : tie.Need-long-move-codes-requires
-long-move-codes-requires c κs = search needs
-
--- src/lib.rt:65:9
-merged-requires : tie.Need-merged-requires
-merged-requires c κs = search needs
-
--- src/lib.rt:66:38
-no-write-requires : tie.Need-no-write-requires
-no-write-requires c κs = search needs
-
--- src/lib.rt:66:50
-write-data-requires : tie.Need-write-data-requires
-write-data-requires c κs = search needs
-
--- src/lib.rt:66:20
-done-requires : tie.Need-done-requires
-done-requires c κs = search needs
-
--- src/lib.rt:66:5
-settled-requires : tie.Need-settled-requires
-settled-requires c κs = search needs
-
--- src/lib.rt:52:1
 returns-3 : tie.Need-returns-3
 unfolding logicToPlaceOf sizeOfOf operandOf locateOf movedOf extensionOf fetchOf putOf
 returns-3 c = λ m.
@@ -89,18 +20,18 @@ pub eor-to-data-spec : {M : Type 1} → statement M
 eor-to-data-spec =
     tie.close
     (tie.spec
-    returns
-    returns-2
-    plus-requires
-    plus-requires-2
-    data-requires
-    cut-requires
-    data-requires-2
-    logic-requires
-    long-move-codes-requires
-    merged-requires
-    no-write-requires
-    write-data-requires
-    done-requires
-    settled-requires
+    (λ c. search needs)
+    (λ c. search needs)
+    (λ c κs. search needs)
+    (λ c κs. search needs)
+    (λ c κs. search needs)
+    (λ c κs. search needs)
+    (λ c κs. search needs)
+    (λ c κs. search needs)
+    (λ c κs. search needs)
+    (λ c κs. search needs)
+    (λ c κs. search needs)
+    (λ c κs. search needs)
+    (λ c κs. search needs)
+    (λ c κs. search needs)
     returns-3)

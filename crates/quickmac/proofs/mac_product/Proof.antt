@@ -4,12 +4,6 @@ use borrow.Author.Needs.{needs}
 use Rattle.quickmac.proofs.mac_product.Statement.{statement}
 use Rattle.quickmac.proofs.mac_product.Tie as tie
 
-returns : tie.Need-returns
-returns c = search needs
-
-returns-2 : tie.Need-returns-2
-returns-2 c = search needs
-
 returns-3 : tie.Need-returns-3
 unfolding mac
 returns-3 c = λ sr e.
@@ -30,8 +24,8 @@ mac-product-spec =
     (λ c κs. tt)
     (λ c. search needs)
     (λ c. search needs)
-    returns
-    returns-2
+    (λ c. search needs)
+    (λ c. search needs)
     (λ c κs. tt)
     returns-3
     (λ c κs. search needs)

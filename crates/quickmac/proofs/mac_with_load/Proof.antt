@@ -5,12 +5,6 @@ use borrow.Author.Needs.{needs}
 use Rattle.quickmac.proofs.mac_with_load.Statement.{statement}
 use Rattle.quickmac.proofs.mac_with_load.Tie as tie
 
-returns : tie.Need-returns
-returns c = search needs
-
-returns-2 : tie.Need-returns-2
-returns-2 c = search needs
-
 returns-3 : tie.Need-returns-3
 unfolding inUnit
 returns-3 c = λ sr e.
@@ -27,11 +21,11 @@ mac-with-load-spec =
     (λ c κs. search needs)
     (λ c. search needs)
     (λ c. search needs)
-    returns
+    (λ c. search needs)
     (λ c κs. tt)
     (λ c. search needs)
     (λ c. search needs)
-    returns-2
+    (λ c. search needs)
     (λ c. search needs)
     (λ c. search needs)
     (λ c. search needs)
