@@ -59,8 +59,9 @@ fn together(rest: Cpu, g: [u32; 16], pc: u32, sr: u16, macsr: u32, mask: u32, ac
     )
 }
 
-// As many steps as the budget says, or up to one that is refused. The registers stand apart from the rest of the state, and the common
-// actions are done here; the state is checked once, for every step keeps it admitted. The rows are found by the table that is lent.
+// As many steps as the budget says, or up to one that is refused. The registers stand apart from the rest of the state, which is checked
+// once, for every step keeps it admitted; the rows are found by the table that is lent. A word is tried by the quick path and then by the
+// plain engine, both in place; what neither does is done on the whole state.
 fn advanced(top: &[u8], given: Cpu, mem: &mut [u8], budget: u32) -> Progress
     requires { ⌜ (length (now mem) ≤ 0x100_0000) × (admittedOf given ≡ true) × Sound (now top) ⌝ }
     ensures { λ r. ⌜ advance r (now (mem .exit)) ≡ progress budget 0 0 given (now (mem .entry)) ⌝ }
@@ -165,8 +166,8 @@ pub fn run(cpu: Cpu, mem: &mut [u8], budget: u32) -> Ran
     }
 }
 
-// One step is a run of one, so that `execute` has one caller and is compiled into the loop. It lends an empty table: to build the table
-// takes a third of the time of a step.
+// One step is a run of one, so that the quick path has one caller and is compiled into the loop. It lends an empty table: to build the
+// table takes a third of the time of a step.
 pub fn step(cpu: Cpu, mem: &mut [u8]) -> Stepped
     ensures { λ r. ⌜ outcome r (now (mem .exit)) ≡ stepOf cpu (now (mem .entry)) ⌝ }
 {

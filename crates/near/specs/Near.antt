@@ -1,5 +1,5 @@
 -- What a spot says of an operand's place, and a reading of its source. `Far` says nothing. Assumes nothing.
-use Prim.Native.Nat.{ℕ}
+use Prim.Native.Nat.{ℕ, _<_, _^_}
 use mathlib.Core.Path.{_≡_, sym, ap}
 use mathlib.Core.List.{List}
 use Rattle.manual.specs.declared.Size.{Size}
@@ -11,7 +11,8 @@ use Rattle.manual.specs.declared.Source.{Source}
 use Rattle.manual.specs.declared.Write.{Write}
 use Rattle.manual.specs.Word.{plus}
 use Rattle.manual.specs.Registers.{noWrite}
-use Rattle.manual.specs.Address.{extension, locate, moved}
+use Rattle.manual.specs.Memory.{load}
+use Rattle.manual.specs.Address.{extension, locate, moved, source}
 use Rattle.manual.specs.Change.{put, store}
 use Rattle.manual.specs.declared.Change.{Change}
 use Rattle.near.specs.declared.Spot.{Spot}
@@ -37,6 +38,11 @@ spotted Far l = l
 
 abbrev pub readAs : ℕ → ℕ → Write → Source
 readAs v next w = record { got = Value v; next = next; moved = w }
+
+-- the number that is loaded at a spot is what the operand of a word reads
+abbrev pub Readable : List ℕ → List ℕ → ℕ → ℕ → Size → Spot → Type 0
+Readable g m pc op z (At a next w) = (v : ℕ) → v < 2 ^ 32 → load m a z ≡ Value v → readAs v next w ≡ source g m pc op z
+Readable g m pc op z Far = Unit {0}
 
 abbrev pub asRead : Reading → Source → Source
 asRead (Read v next w) s = readAs v next w

@@ -1,4 +1,4 @@
-// Dn, An, (An), (An)+, -(An) and d16(An).
+// Dn, An, (An), (An)+, -(An) and d16(An); of longs that are read, immediates too.
 use super::Reading;
 use super::Spot;
 use manual::Got;
@@ -19,7 +19,7 @@ ghost use Prim.Native.Nat.{ℕ, _+_, _*_, _/_, _%_};
 ghost use Rattle.manual.specs.declared.Size.the-variants.{Long};
 ghost use Rattle.manual.specs.Registers.{addressOf};
 ghost use Rattle.manual.specs.Address.{operand as operandOf, source as sourceOf};
-ghost use Rattle.near.specs.Near.{located, spotted, asRead};
+ghost use Rattle.near.specs.Near.{located, spotted, Readable, asRead};
 
 // Of a mode and of register r, which holds a: as it is, or as another operand's move left it.
 pub fn spot(z: Size, mem: &[u8], pc: u32, mode: u32, r: u32, a: u32) -> Spot
@@ -43,6 +43,19 @@ pub fn spot(z: Size, mem: &[u8], pc: u32, mode: u32, r: u32, a: u32) -> Spot
     }
 }
 
+// Where the operand of a word's bits 5 to 0 is to be loaded from: an immediate long stands where its extension words do.
+fn readable(z: Size, g: &[u32; 16], mem: &[u8], pc: u32, op: u32) -> Spot
+    ensures { λ s. ⌜ Readable (now (g .entry)) (now (mem .entry)) pc op z s ⌝ }
+{
+    if op % 64 == 0x3C {
+        if let Size::Long = z {
+            return Spot::At(pc, plus(pc, 4), no_write());
+        }
+    }
+    let a = address(g, op % 8);
+    spot(z, mem, pc, op / 8 % 8, op % 8, a)
+}
+
 // The operand that a word's bits 5 to 0 name.
 pub fn read(z: Size, g: &[u32; 16], mem: &[u8], pc: u32, op: u32) -> Reading
     ensures { λ r. ⌜ asRead r (sourceOf (now (g .entry)) (now (mem .entry)) pc op z) ≡ sourceOf (now (g .entry)) (now (mem .entry)) pc op z ⌝ }
@@ -51,8 +64,7 @@ pub fn read(z: Size, g: &[u32; 16], mem: &[u8], pc: u32, op: u32) -> Reading
     if mode < 2 {
         return Reading::Read(cut(z, general(g, op)), plus(pc, 0), no_write());
     }
-    let a = address(g, op % 8);
-    let Spot::At(b, next, moved) = spot(z, mem, pc, mode, op % 8, a) else {
+    let Spot::At(b, next, moved) = readable(z, g, mem, pc, op) else {
         return Reading::Far;
     };
     match load(mem, b, z) {
