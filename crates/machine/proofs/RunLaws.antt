@@ -43,7 +43,7 @@ use Rattle.quickmac.specs.Units.{afterMac, inUnit}
 use Rattle.quickmac.specs.UnitLaws.{summed-performed}
 use Rattle.quick.specs.declared.Attempt.{Attempt}
 use Rattle.quick.specs.declared.Attempt.the-variants.{Done as InPlace, Summed as InUnit, Left}
-use Rattle.quick.specs.Attempts.{Attempted}
+use Rattle.quick.specs.Attempts.{whole as all, agreedWhole, Attempted, apart}
 
 -- ---- a run over a step, which stays shut
 
@@ -191,7 +191,10 @@ module _ (b k v : ℕ) (whole : Advance) (g : List ℕ) (pc sr macsr mask : ℕ)
   as-placed pc′ sr′ p =
       rw (p .1) (place.performed g pc sr unit rest m change pc′ sr′ g′ m′ (p .0) ∙ sym (is-step b k v whole g pc sr unit rest m op row t))
 
-  module _ (r : Attempt) (h : Attempted change sr macsr mask g acc m g′ acc′ m′ r) where
+  module _ (r : Attempt) (w : all r sr macsr mask g′ acc′ m′ ≡ agreedWhole r change sr macsr mask g acc m) where
+    h : Attempted change sr macsr mask g acc m g′ acc′ m′ r
+    h = apart change sr macsr mask g acc m g′ acc′ m′ r w
+
     pub again : r ≡ Left → Turn b k v whole g′ pc sr (emacOf macsr mask acc′) rest m′ op row
     again q = as-left (rw q at h)
 

@@ -48,7 +48,7 @@ ghost use Rattle.manual.specs.declared.Emac.{Emac};
 ghost use Rattle.manual.specs.Emac.{emacOf};
 ghost use Rattle.instructions.specs.Step.{ofRow};
 ghost use Rattle.inplace.specs.Effects.{after, agreed};
-ghost use Rattle.quick.specs.Attempts.{Attempted};
+ghost use Rattle.quick.specs.Attempts.{whole, agreedWhole};
 
 // Done, with the next address and the status register; or summed, with the next address and MACSR; or left, with nothing changed.
 pub enum Attempt {
@@ -129,7 +129,7 @@ pub fn quick_step(
     mem: &mut [u8],
     op: u32,
 ) -> Attempt
-    ensures { λ r. ⌜ ((other : ℕ) → Attempted (ofRow row (now (g .entry)) pc sr other (emacOf macsr mask (now (acc .entry))) (now (mem .entry)) op) sr macsr mask (now (g .entry)) (now (acc .entry)) (now (mem .entry)) (now (g .exit)) (now (acc .exit)) (now (mem .exit)) r) ⌝ }
+    ensures { λ r. ⌜ ((other : ℕ) → whole r sr macsr mask (now (g .exit)) (now (acc .exit)) (now (mem .exit)) ≡ agreedWhole r (ofRow row (now (g .entry)) pc sr other (emacOf macsr mask (now (acc .entry))) (now (mem .entry)) op) sr macsr mask (now (g .entry)) (now (acc .entry)) (now (mem .entry))) ⌝ }
 {
     if row == rows::MAC {
         match quick_mac(g, acc, pc, sr, macsr, mask, &*mem, op) {
