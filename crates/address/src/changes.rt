@@ -6,6 +6,7 @@ use manual::Place;
 use manual::Reply;
 use manual::Size;
 use manual::Write;
+use replies::fault_reply;
 use word::flags::kept_codes;
 use word::registers::address;
 use word::registers::data;
@@ -15,16 +16,7 @@ use word::registers::write_data;
 use word::word::merged;
 use word::word::minus;
 ghost use mathlib.Core.Path.{_≡_};
-ghost use Rattle.manual.specs.Reply.{faultReply};
 ghost use Rattle.manual.specs.Change.{done as doneOf, store as storeOf, acting as actingOf, enterAfter, enter as enterOf, illegal as illegalOf, privilege as privilegeOf, refuse as refuseOf, refused as refusedOf, notCarried, jump as jumpOf, push as pushOf, put as putOf};
-
-fn fault_reply(x: Fault) -> Reply
-    ensures { λ r. ⌜ r ≡ faultReply x ⌝ }
-{
-    match x {
-        Fault::Outside => Reply::NotInside,
-    }
-}
 
 pub fn done(next: u32, codes: u32, first: Write, second: Write) -> Change
     ensures { λ e. ⌜ e ≡ doneOf next codes first second ⌝ }

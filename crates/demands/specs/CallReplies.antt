@@ -26,7 +26,7 @@ use Rattle.demands.specs.Exact.{OneOf}
 -- ---- the calls on the state alone
 
 pub set-sr-number : (s : Cpu) (v : ℕ) → numberOf (setSrCall s v .reply) ≡ cond (admitted s) 0 2
-unfolding setSrCall numberOf
+unfolding setSrCall
 set-sr-number s v = by (admitted s) (setSr v s)
   where
     by : (b : Bool) (t : Cpu) → numberOf (cond {A = Answer} b (record { reply = Done; cpu = t }) (record { reply = NotAdmitted; cpu = s }) .reply) ≡ cond b 0 2
@@ -34,7 +34,7 @@ set-sr-number s v = by (admitted s) (setSr v s)
     by false t = refl
 
 pub told-number : (s : Cpu) (v : ℕ) → numberOf (told s v .reply) ≡ cond (admitted s) 0 2
-unfolding told numberOf
+unfolding told
 told-number s v = by (admitted s)
   where
     by : (b : Bool) → numberOf (cond {A = Told} b (record { reply = Done; value = v }) (record { reply = NotAdmitted; value = 0 }) .reply) ≡ cond b 0 2
@@ -77,7 +77,6 @@ acc-of a i =
     laws.either-of l a _ 2 (laws.either-of l (ltb i 4) 0 6 (inl refl) (inr (inr (inl refl)))) (inr (inl refl))
 
 acc-told : (s : Cpu) (i v : ℕ) → numberOf (accTold s i v .reply) ≡ acc-tests (admitted s) i
-unfolding numberOf
 acc-told s i v = by (admitted s) (ltb i 4)
   where
     by : (a b : Bool)
@@ -87,7 +86,6 @@ acc-told s i v = by (admitted s) (ltb i 4)
     by false b = refl
 
 acc-changed : (s : Cpu) (i : ℕ) (e : Emac) → numberOf (accChanged s i e .reply) ≡ acc-tests (admitted s) i
-unfolding numberOf
 acc-changed s i e = by (admitted s) (ltb i 4)
   where
     by : (a b : Bool)
@@ -113,7 +111,7 @@ unfolding setAccPhysCall
 set-acc-phys-number s i acc ext = acc-changed s i _
 
 pub set-macsr-number : (s : Cpu) (v : ℕ) → numberOf (setMacsrCall s v .reply) ≡ pick (admitted s) 0 2
-unfolding setMacsrCall numberOf
+unfolding setMacsrCall
 set-macsr-number s v = by (admitted s)
   where
     by : (b : Bool) → numberOf (cond {A = Answer} b (doneWith (setMacsr (s .emac) v) s) (record { reply = NotAdmitted; cpu = s }) .reply) ≡ pick b 0 2
@@ -161,7 +159,7 @@ module _ (a b c d : Bool) where
 
 module _ (b : List ℕ) where
   read-number : numberOf (readBlock b .reply) ≡ four (ltb (length b) 5) (eqb (valueAt b 0 1) 1) (eqb (length b) 128 && eqb (valueAt b 1 4) 123) (saysAdmitted b)
-  unfolding readBlock numberOf
+  unfolding readBlock
   read-number = by (ltb (length b) 5) (eqb (valueAt b 0 1) 1) (eqb (length b) 128 && eqb (valueAt b 1 4) 123) (saysAdmitted b)
     where
       by : (x y z w : Bool)
@@ -198,7 +196,7 @@ module _ (b : List ℕ) where
   read-of = laws.same-of (0 ∷ 2 ∷ 8 ∷ 9 ∷ []) read-number (four-of (ltb (length b) 5) (eqb (valueAt b 0 1) 1) (eqb (length b) 128 && eqb (valueAt b 1 4) 123) (saysAdmitted b))
 
   store-number : (s : Cpu) → numberOf (storeBlock s b .reply) ≡ pick (eqb (length b) 128) (pick (admitted s) 0 2) 9
-  unfolding storeBlock numberOf
+  unfolding storeBlock
   store-number s = by (eqb (length b) 128) (admitted s)
     where
       by : (x y : Bool)
@@ -231,7 +229,7 @@ module _ (f : List ℕ) where
   matches = leb 14 says && (leb says (imageMemory + 14) && eqb (length f) (5 + says))
 
   image-number : numberOf (imageReply f) ≡ four (ltb (length f) 5) (eqb (valueAt f 0 1) 1) matches (admitted (imageState f))
-  unfolding imageReply numberOf
+  unfolding imageReply
   image-number = by (ltb (length f) 5) (eqb (valueAt f 0 1) 1) matches (admitted (imageState f))
     where
       by : (x y z w : Bool) → numberOf (cond x WrongLength (cond y (cond z (cond w Done NotAdmitted) WrongLength) WrongVersion)) ≡ four x y z w
@@ -274,7 +272,7 @@ module _ (f : List ℕ) where
   -- the file is read into a memory
   module _ (m : List ℕ) where
     load-number : numberOf (loadImage f m .reply) ≡ pick (eqb (length m) imageMemory) (numberOf (imageReply f)) 9
-    unfolding loadImage numberOf
+    unfolding loadImage
     load-number = by (eqb (length m) imageMemory) (isDone (imageReply f))
       where
         by : (a b : Bool)

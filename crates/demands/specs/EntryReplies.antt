@@ -36,7 +36,7 @@ module _ (s : Cpu) (m : List ℕ) (vector pc : ℕ) (level : Level) where
   called = cond (levelTaken level) entry (unchanged s OutOfRange m)
 
   called-number : numbered called ≡ cond (levelTaken level) (numbered entry) 6
-  unfolding numberOf refusal
+  unfolding refusal
   called-number = laws.number-cond (levelTaken level) entry (unchanged s OutOfRange m)
 
   called-never : (k : ℕ) → (0 ≡ k → ⊥) → (4 ≡ k → ⊥) → (6 ≡ k → ⊥) → numbered called ≡ k → ⊥
@@ -93,11 +93,11 @@ module _ (s : Cpu) (m : List ℕ) (vector level : ℕ) where
   asked = cond (ltb level 8) tried (unchanged s OutOfRange m)
 
   tried-number : numbered tried ≡ cond (masked (s .sr) level) 7 (numbered taken)
-  unfolding numberOf refusal
+  unfolding refusal
   tried-number = laws.number-cond (masked (s .sr) level) (unchanged s Masked m) taken
 
   asked-number : numbered asked ≡ cond (ltb level 8) (numbered tried) 6
-  unfolding numberOf refusal
+  unfolding refusal
   asked-number = laws.number-cond (ltb level 8) tried (unchanged s OutOfRange m)
 
   taken-never : (k : ℕ) → (0 ≡ k → ⊥) → (4 ≡ k → ⊥) → numbered taken ≡ k → ⊥

@@ -72,7 +72,6 @@ follows s m all f =
     }
 
 done-fetches : (s : Cpu) (m : List ℕ) → ((j : ℕ) → getD m j 0 < 256) → step s m .stepped .reply ≡ Done → Fetches s m
-unfolding numberOf
 done-fetches s m all done =
     let h : Ready s m × ((s .stopped ≡ false) × ((SomeOutside m (accesses s m) → ⊥) × (NotCarriedWord m (s .pc) (numberAt m (s .pc) Word) → ⊥))) =
     reply-0 .step-0 s m all .0 (ap numberOf done)

@@ -121,7 +121,7 @@ module _ (m : List ℕ) (inner : ℕ) (few : inner ≤ 7) (one : (inner ≡ 1) �
   }
 
   on-block : (r : Reply) → OneOf (0 ∷ 2 ∷ 8 ∷ 9 ∷ []) (numberOf r) → (inner ≡ 2 → ⊥) → OnBlock (numberOf r) m (saying r m inner) inner
-  unfolding numberOf blockReply
+  unfolding blockReply
   on-block Done w two = held two
   on-block TooLong w two = absurd (no 1 w (inl refl))
   on-block NotAdmitted w two = rw (by (tooLong m)) not-admitted
@@ -140,7 +140,6 @@ module _ (m : List ℕ) (inner : ℕ) (few : inner ≤ 7) (one : (inner ≡ 1) �
 -- ---- the answers
 
 number-small : (n : Reply) → numberOf n ≤ 9
-unfolding numberOf
 number-small Done = omega arith
 number-small TooLong = omega arith
 number-small NotAdmitted = omega arith

@@ -101,7 +101,7 @@ unreached (At (NoValue x)) = true
 unreached NoAddress = false
 
 pub refused-4 : (x : Fault) → refusing (refused x .action) ≡ 4
-unfolding refused refuse numberOf
+unfolding refused refuse
 refused-4 Out = refl
 
 pub illegal-made : (m : List ℕ) (at sr : ℕ) → Made m [] (illegal at sr)

@@ -77,7 +77,6 @@ is-done WrongVersion h = absurd (false≢true h)
 is-done WrongLength h = absurd (false≢true h)
 
 pub is-not : (n : Reply) → isDone n ≡ false → NotZero n
-unfolding numberOf
 is-not Done h = absurd (false≢true (sym h))
 is-not TooLong h = λ e. omega arith
 is-not NotAdmitted h = λ e. omega arith
@@ -90,7 +89,6 @@ is-not WrongVersion h = λ e. omega arith
 is-not WrongLength h = λ e. omega arith
 
 done-not : NotZero Done → ⊥
-unfolding numberOf
 done-not h = h refl
 
 -- done is reply 0, and the only one

@@ -118,7 +118,7 @@ number-same s n m = refl
 -- replies 1 and 2 come before all else
 module _ (s : Cpu) (m : List ℕ) (o : Outcome) where
   checked-number : numbered (checked s m o) ≡ cond (tooLong m) 1 (cond (admitted s) (numbered o) 2)
-  unfolding numberOf refusal
+  unfolding refusal
   checked-number =
       number-cond (tooLong m) (unchanged s TooLong m) (cond (admitted s) o (unchanged s NotAdmitted m))
       ∙ ap (λ (x : ℕ). cond (tooLong m) 1 x) (number-cond (admitted s) o (unchanged s NotAdmitted m))
@@ -182,7 +182,7 @@ module _ (given s : Cpu) (level : Level) (vector pc : ℕ) (m : List ℕ) where
   pointer = addressOf (setSr (handling level (s .sr)) s .r) 7
 
   pub entered-answers : Answers m (entryAt s level vector) (entered given s level vector pc m)
-  unfolding entered numberOf refusal
+  unfolding entered refusal
   entered-answers =
       by (inside m (pcPlace pointer) 4) (inside m (framePlace pointer) 4) (inside m (vectorPlace (s .vbr) vector) 4)
       (completed (handlerState (setSr (handling level (s .sr)) s) (framePlace pointer) (numberAt (framed m pointer vector (s .sr) pc) (vectorPlace (s .vbr) vector) Long)) vector (framed m pointer vector (s .sr) pc))
@@ -198,7 +198,7 @@ module _ (given s : Cpu) (level : Level) (vector pc : ℕ) (m : List ℕ) where
 
 module _ (given s : Cpu) (m : List ℕ) where
   pub left-answers : Answers m (returnAt s) (left given s m)
-  unfolding left numberOf refusal
+  unfolding left refusal
   left-answers = by (inside m (addressOf (s .r) 7) 4) (inside m (plus (addressOf (s .r) 7) 4) 4) _
     where
       by : (a b : Bool) (t : Cpu)
@@ -209,7 +209,7 @@ module _ (given s : Cpu) (m : List ℕ) where
 
   -- one access
   pub one-answers : (a n : ℕ) (t : Cpu) (m′ : List ℕ) → Answers m (access a n ∷ []) (cond (inside m a n) (completed t 0 m′) (unchanged given NotInside m))
-  unfolding numberOf refusal
+  unfolding refusal
   one-answers a n t m′ = by (inside m a n)
     where
       by : (b : Bool) → numbered (cond b (completed t 0 m′) (unchanged given NotInside m)) ≡ cond (cond b false true) 4 0
@@ -218,7 +218,7 @@ module _ (given s : Cpu) (m : List ℕ) where
 
   -- many
   all-answers : (b c : Bool) → b ≡ cond c false true → (t : Cpu) (m′ : List ℕ) → numbered (cond b (completed t 0 m′) (unchanged given NotInside m)) ≡ cond c 4 0
-  unfolding numberOf refusal
+  unfolding refusal
   all-answers b c e t m′ = rw e (by c)
     where
       by : (c : Bool) → numbered (cond (cond c false true) (completed t 0 m′) (unchanged given NotInside m)) ≡ cond c 4 0
@@ -244,7 +244,7 @@ module _ (given s : Cpu) (m : List ℕ) where
 
   -- what an action answers: 4 where one of its accesses is not inside, else its own refusal, if it is one
   act-number : (a : Action) → numbered (act given s a m) ≡ cond (missed m (leaves s a)) 4 (refusing a)
-  unfolding numberOf refusal statusPushed
+  unfolding refusal statusPushed
   act-number Nothing = refl
   act-number (Store a z v) = one-answers a (bytes z) _ _
   act-number (StoreMany regs a) = all-answers _ (missed m (manyLongs 16 regs a)) (many-missed 16 regs a) _ _
@@ -270,7 +270,7 @@ unfolding perform
 perform-number s c m = act-number s (applied s c) m (c .action)
 
 pub perform-5 : (s : Cpu) (m : List ℕ) → numbered (perform s notCarried m) ≡ 5
-unfolding perform notCarried refuse numberOf refusal
+unfolding perform notCarried refuse refusal
 perform-5 s m = refl
 
 -- and that leaves no access
@@ -289,7 +289,7 @@ module _ (given s : Cpu) (m : List ℕ) where
   either-says v false x y p q = q
 
   refused-says : (v : ℕ) → Says v (unchanged given NotInside m)
-  unfolding numberOf refusal
+  unfolding refusal
   refused-says v e = absurd (omega arith)
 
   -- done where a test holds

@@ -114,7 +114,7 @@ module _ (s : Cpu) (m : List ℕ) where
       made h = inl (laws.perform-number s changing m ∙ both (missed m own) (missed m done-then) _ h)
 
   acted-kind : Kind (numbered acted) (missed m (accesses s m))
-  unfolding numberOf refusal
+  unfolding refusal
   acted-kind = by (inside m (s .pc) 2) refl
     where
       by : (b : Bool) → inside m (s .pc) 2 ≡ b → Kind (numbered acted) (missed m (accesses s m))
@@ -126,7 +126,7 @@ module _ (s : Cpu) (m : List ℕ) where
   acted-never k n0 n4 n5 e = ⊎-elim (λ h. laws.neither (missed m (accesses s m)) 4 0 k n4 n0 (sym h ∙ e)) (λ h. n5 (sym (h .0) ∙ e)) acted-kind
 
   inner-number : numbered inner ≡ cond (s .stopped) 3 (numbered acted)
-  unfolding numberOf refusal
+  unfolding refusal
   inner-number = laws.number-cond (s .stopped) (unchanged s Stopped m) acted
 
   inner-never : (k : ℕ) → (0 ≡ k → ⊥) → (3 ≡ k → ⊥) → (4 ≡ k → ⊥) → (5 ≡ k → ⊥) → numbered inner ≡ k → ⊥
@@ -275,7 +275,6 @@ module _ (budget : ℕ) (s : Cpu) (m : List ℕ) where
 
   -- not 1 or 2 then
   not-before : Ready s m → (number ≡ 1 → ⊥) × (number ≡ 2 → ⊥)
-  unfolding numberOf
   not-before h =
       ⊎-elim
       (λ d. ((λ e. omega (arith, sym (ap numberOf (d .0)) ∙ e)), (λ e. omega (arith, sym (ap numberOf (d .0)) ∙ e))))
@@ -286,11 +285,9 @@ module _ (budget : ℕ) (s : Cpu) (m : List ℕ) where
       (runs .ends budget s m (laws.iff-not-lt 0x100_0000 (length m) .1 (h .0)) (h .1))
 
   given-1 : 0x100_0000 < length m → number ≡ 1
-  unfolding numberOf
   given-1 h = ap (λ (r : RunOutcome). numberOf (r .ran .reply)) (runs .too-long budget s m (laws.iff-lt 0x100_0000 (length m) .1 h))
 
   given-2 : length m ≤ 0x100_0000 → admitted s ≡ false → number ≡ 2
-  unfolding numberOf
   given-2 h k = ap (λ (r : RunOutcome). numberOf (r .ran .reply)) (runs .not-admitted budget s m (laws.iff-not-lt 0x100_0000 (length m) .1 h) k)
 
   -- one of the three
@@ -317,7 +314,6 @@ module _ (budget : ℕ) (s : Cpu) (m : List ℕ) where
   of-run-step : (k : ℕ) → (0 ≡ k → ⊥) → (1 ≡ k → ⊥) → (2 ≡ k → ⊥) → {X : Type 0}
       → (numbered (step (ran .ran .cpu) (ran .memory)) ≡ k) ↔ (Ready (ran .ran .cpu) (ran .memory) × X)
       → (number ≡ k) ↔ (Ready s m × ((ran .ran .count < budget) × X))
-  unfolding numberOf
   of-run-step k n0 n1 n2 {X} at-step = (there, back)
     where
       at-end : Ready s m → Ends budget ran
@@ -349,7 +345,6 @@ module _ (budget : ℕ) (s : Cpu) (m : List ℕ) where
   of-run-5 all = of-run-step 5 (λ h. omega arith) (λ h. omega arith) (λ h. omega arith) (of-step-5 (ran .ran .cpu) (ran .memory) (runs .still-bytes budget s m all))
 
   pub of-run-0 : (number ≡ 0) ↔ (Ready s m × (ran .ran .count ≡ budget))
-  unfolding numberOf
   of-run-0 = (there, back)
     where
       at-end : Ready s m → Ends budget ran
@@ -364,7 +359,6 @@ module _ (budget : ℕ) (s : Cpu) (m : List ℕ) where
       back h = ⊎-elim (λ d. ap numberOf (d .0)) (λ d. absurd (omega (arith, d .0, h .1))) (at-end (h .0))
 
   pub of-run : OneOf (0 ∷ 1 ∷ 2 ∷ 3 ∷ 4 ∷ 5 ∷ []) number
-  unfolding numberOf
   of-run =
       let l : List ℕ = 0 ∷ 1 ∷ 2 ∷ 3 ∷ 4 ∷ 5 ∷ [] in
       which (λ h. laws.same-of l (given-1 h) (inr (inl refl))) (λ h k. laws.same-of l (given-2 h k) (inr (inr (inl refl))))

@@ -40,7 +40,6 @@ pub record Units : Type 0 where
 
 module _ (e next : Emac) where
   number : numberOf (changed e next .reply) ≡ pick (emacAdmitted e) 0 2
-  unfolding numberOf
   number = by (emacAdmitted e)
     where
       by : (a : Bool) → numberOf (cond a (answer Done next) (answer NotAdmitted e) .reply) ≡ pick a 0 2
@@ -48,7 +47,6 @@ module _ (e next : Emac) where
       by false = refl
 
   refused : NotZero (changed e next .reply) → changed e next .emac ≡ e
-  unfolding numberOf
   refused = by (emacAdmitted e)
     where
       by : (a : Bool) → let o : EmacAnswer = cond a (answer Done next) (answer NotAdmitted e) in NotZero (o .reply) → o .emac ≡ e
@@ -60,7 +58,6 @@ module _ (e next : Emac) where
 
   module _ (i : ℕ) where
     acc-number : numberOf (accChanged e i next .reply) ≡ acc-tests (emacAdmitted e) i
-    unfolding numberOf
     acc-number = by (emacAdmitted e) (ltb i 4)
       where
         by : (a b : Bool) → numberOf (cond a (cond b (answer Done next) (answer OutOfRange e)) (answer NotAdmitted e) .reply) ≡ pick a (pick b 0 6) 2
@@ -69,7 +66,6 @@ module _ (e next : Emac) where
         by false b = refl
 
     acc-refused : NotZero (accChanged e i next .reply) → accChanged e i next .emac ≡ e
-    unfolding numberOf
     acc-refused = by (emacAdmitted e) (ltb i 4)
       where
         by : (a b : Bool) → let o : EmacAnswer = cond a (cond b (answer Done next) (answer OutOfRange e)) (answer NotAdmitted e) in NotZero (o .reply) → o .emac ≡ e

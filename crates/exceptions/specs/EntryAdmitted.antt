@@ -1,20 +1,24 @@
 -- Entry of an exception and return from it keep a state admitted. Assumes nothing.
 use Prim.Native.Nat.{ℕ}
 use mathlib.Core.Path.{_≡_}
-use mathlib.Core.Bool.{Bool, true, false, cond}
-use mathlib.Core.List.{List}
+use mathlib.Core.Bool.{true, false}
 use Rattle.manual.specs.declared.Cpu.{Cpu}
+use Rattle.manual.specs.declared.Access.{Access}
+use Rattle.manual.specs.declared.Access.the-variants.{Here, Not}
+use Rattle.manual.specs.declared.Got.{Got}
+use Rattle.manual.specs.declared.Got.the-variants.{Value, Fault as NoValue}
+use Rattle.manual.specs.declared.Stored.{Stored}
+use Rattle.manual.specs.declared.Stored.the-variants.{Done as Taken, Fault as NotTaken}
 use Rattle.manual.specs.declared.Level.{Level}
 use Rattle.manual.specs.declared.Reply.{Reply}
 use Rattle.manual.specs.Registers.{addressOf, withAddress}
-use Rattle.manual.specs.Reply.{Outcome, refusal, unchanged, completed}
+use Rattle.manual.specs.Reply.{Outcome, refusal, faultReply, accessing, loading, taking}
 use Rattle.manual.specs.Admitted.{emacAdmitted, admitted}
-use Rattle.manual.specs.Exceptions.{setSr, handling, pcPlace, framePlace, framed, handlerState, entered, returned, left}
+use Rattle.manual.specs.Exceptions.{setSr, handling, pcPlace, framePlace, handlerState, entered, returned, left}
 use Rattle.manual.specs.Differences.{vectorPlace}
-use Rattle.manual.specs.Memory.{inside, numberAt}
+use Rattle.manual.specs.Memory.{Memory, access, load}
 use Rattle.manual.specs.Word.{plus}
 use Rattle.manual.specs.declared.Size.the-variants.{Long}
-use Rattle.manual.specs.declared.Reply.the-variants.{NotInside}
 use Rattle.statusregister.specs.AdmittedLaws.{admitted-emac, address-admitted, pc-admitted, stopped-admitted, set-sr-admitted}
 
 pub handler-admitted : (t : Cpu) (frame handler : ℕ) → admitted t ≡ true → admitted (handlerState t frame handler) ≡ true
@@ -29,37 +33,35 @@ pub refusal-admitted : (given : Cpu) (n : Reply) → admitted given ≡ true →
 unfolding refusal
 refusal-admitted given n h = h
 
-pub either-outcome : (b : Bool) (x y : Outcome) → admitted (x .stepped .cpu) ≡ true → admitted (y .stepped .cpu) ≡ true
-    → admitted (cond b x y .stepped .cpu) ≡ true
-either-outcome true x y p q = p
-either-outcome false x y p q = q
+-- ---- what goes on keeps it, and so does a refusal
 
-pub entered-admitted : (given s : Cpu) (level : Level) (vector pc : ℕ) (m : List ℕ)
-    → admitted given ≡ true → admitted s ≡ true → admitted (entered given s level vector pc m .stepped .cpu) ≡ true
-unfolding entered
-entered-admitted given s level vector pc m k h =
-    let t : Cpu = setSr (handling level (s .sr)) s in
-    let sp : ℕ = addressOf (t .r) 7 in
-    let m′ : List ℕ = framed m sp vector (s .sr) pc in
-    let place : ℕ = vectorPlace (s .vbr) vector in
-    let no : Outcome = unchanged given NotInside m in
-    let yes : Outcome = completed (handlerState t (framePlace sp) (numberAt m′ place Long)) vector m′ in
-    let third : Outcome = cond (inside m place 4) yes no in
-    let second : Outcome = cond (inside m (framePlace sp) 4) third no in
-    let kept : admitted (no .stepped .cpu) ≡ true = refusal-admitted given NotInside k in
-    let done : admitted (yes .stepped .cpu) ≡ true = handler-admitted t _ _ (set-sr-admitted (handling level (s .sr)) s (admitted-emac s h)) in
-    either-outcome (inside m (pcPlace sp) 4) second no
-    (either-outcome (inside m (framePlace sp) 4) third no (either-outcome (inside m place 4) yes no done kept) kept)
-    kept
+module _ (given : Cpu) (m : Memory) (k : admitted given ≡ true) where
+  pub accessing-admitted : (x : Access) (f : ℕ → Outcome) → ((at : ℕ) → admitted (f at .stepped .cpu) ≡ true) → admitted (accessing given m x f .stepped .cpu) ≡ true
+  accessing-admitted (Here at) f h = h at
+  accessing-admitted (Not x) f h = refusal-admitted given (faultReply x) k
 
-pub left-admitted : (given s : Cpu) (m : List ℕ) → admitted given ≡ true → admitted s ≡ true → admitted (left given s m .stepped .cpu) ≡ true
-unfolding left
-left-admitted given s m k h =
-    let sp : ℕ = addressOf (s .r) 7 in
-    let no : Outcome = unchanged given NotInside m in
-    let yes : Outcome = completed (returned s sp (numberAt m sp Long) (numberAt m (plus sp 4) Long)) 0 m in
-    let kept : admitted (no .stepped .cpu) ≡ true = refusal-admitted given NotInside k in
-    let done : admitted (yes .stepped .cpu) ≡ true = returned-admitted s sp _ _ (admitted-emac s h) in
-    either-outcome (inside m sp 4) (cond (inside m (plus sp 4) 4) yes no) no
-    (either-outcome (inside m (plus sp 4) 4) yes no done kept)
-    kept
+  pub loading-admitted : (x : Got) (f : ℕ → Outcome) → ((v : ℕ) → admitted (f v .stepped .cpu) ≡ true) → admitted (loading given m x f .stepped .cpu) ≡ true
+  loading-admitted (Value v) f h = h v
+  loading-admitted (NoValue x) f h = refusal-admitted given (faultReply x) k
+
+  pub taking-admitted : (x : Stored) (o : Outcome) → admitted (o .stepped .cpu) ≡ true → admitted (taking given m x o .stepped .cpu) ≡ true
+  taking-admitted Taken o h = h
+  taking-admitted (NotTaken x) o h = refusal-admitted given (faultReply x) k
+
+  pub entered-admitted : (s : Cpu) (level : Level) (vector pc : ℕ) → admitted s ≡ true → admitted (entered given s level vector pc m .stepped .cpu) ≡ true
+  unfolding entered
+  entered-admitted s level vector pc h =
+      let t : Cpu = setSr (handling level (s .sr)) s in
+      let sp : ℕ = addressOf (t .r) 7 in
+      accessing-admitted (access m (pcPlace sp) 4) _ λ high.
+      accessing-admitted (access m (framePlace sp) 4) _ λ low.
+      accessing-admitted (access m (vectorPlace (s .vbr) vector) 4) _ λ table.
+      handler-admitted t _ _ (set-sr-admitted (handling level (s .sr)) s (admitted-emac s h))
+
+  pub left-admitted : (s : Cpu) → admitted s ≡ true → admitted (left given s m .stepped .cpu) ≡ true
+  unfolding left
+  left-admitted s h =
+      let sp : ℕ = addressOf (s .r) 7 in
+      loading-admitted (load m sp Long) _ λ w.
+      loading-admitted (load m (plus sp 4) Long) _ λ pc.
+      returned-admitted s sp w pc (admitted-emac s h)

@@ -1,11 +1,17 @@
 // Entry of an exception, and return from it.
+use manual::Access;
 use manual::Cpu;
+use manual::Fault;
+use manual::Got;
 use manual::Level;
 use manual::Reply;
 use manual::Size;
 use manual::Stepped;
+use memory::access;
+use memory::load;
 use memory::long_at;
-use memory::store;
+use memory::put_long;
+use replies::fault_reply;
 use statusregister::handling;
 use statusregister::with_status;
 use word::registers::address;
@@ -15,14 +21,13 @@ use word::registers::with_stopped;
 use word::word::minus;
 use word::word::plus;
 ghost use mathlib.Core.Path.{_≡_};
-ghost use Prim.Native.Nat.{_+_, _*_, _/_, _%_, _^_, _≤_};
-ghost use lib.ListN.{length};
-ghost use Rattle.manual.specs.declared.Size.the-variants.{Long};
-ghost use Rattle.manual.specs.Memory.{stored};
-ghost use Rattle.manual.specs.Reply.{outcome, refusal as refusalOf};
+ghost use Prim.Native.Nat.{_+_, _*_, _/_, _%_, _^_};
+ghost use Rattle.manual.specs.Memory.{mapped};
+ghost use Rattle.manual.specs.Reply.{outcome, refusal as refusalOf, faultReply};
 ghost use Rattle.manual.specs.Differences.{frameBytes};
-ghost use Rattle.manual.specs.Exceptions.{frameLong, handlerState, entered as enteredOf, returned as returnedOf, left as leftOf};
+ghost use Rattle.manual.specs.Exceptions.{frameLong, framed, handlerState, entered as enteredOf, returned as returnedOf, left as leftOf};
 
+// Refused: the registers as given, and no vector.
 pub fn refusal(given: Cpu, reply: Reply) -> Stepped
     ensures { λ r. ⌜ r ≡ refusalOf given reply ⌝ }
 {
@@ -33,6 +38,13 @@ pub fn refusal(given: Cpu, reply: Reply) -> Stepped
     }
 }
 
+// Refused for an access that memory does not take.
+pub fn faulted(given: Cpu, x: Fault) -> Stepped
+    ensures { λ r. ⌜ r ≡ refusalOf given (faultReply x) ⌝ }
+{
+    refusal(given, fault_reply(x))
+}
+
 fn frame_long(sp: u32, vector: u8, sr: u16) -> u32
     ensures { λ r. ⌜ r ≡ frameLong sp vector sr ⌝ }
 {
@@ -40,11 +52,10 @@ fn frame_long(sp: u32, vector: u8, sr: u16) -> u32
 }
 
 fn store_frame(mem: &mut [u8], high: u32, low: u32, pc: u32, w: u32)
-    requires { ⌜ (high + 4 ≤ length (now mem)) × (low + 4 ≤ length (now mem)) ⌝ }
-    ensures { λ _. ⌜ now (mem .exit) ≡ stored (stored (now (mem .entry)) high Long pc) low Long w ⌝ }
+    ensures { λ _. ⌜ now (mem .exit) ≡ framed (now (mem .entry)) high low pc w ⌝ }
 {
-    store(mem, high, Size::Long, pc);
-    store(mem, low, Size::Long, w);
+    put_long(mem, high, pc);
+    put_long(mem, low, w);
 }
 
 fn handler_state(cpu: Cpu, frame: u32, handler: u32) -> Cpu
@@ -53,29 +64,30 @@ fn handler_state(cpu: Cpu, frame: u32, handler: u32) -> Cpu
     with_stopped(with_pc(with_address(cpu, 7, frame), handler), false)
 }
 
-// The vector is read after the frame is stored.
+// Entry to an exception, or its refusal. The vector is read after the frame is stored.
 pub fn entered(given: Cpu, cpu: Cpu, level: Level, vector: u8, pc: u32, mem: &mut [u8]) -> Stepped
-    ensures { λ r. ⌜ outcome r (now (mem .exit)) ≡ enteredOf given cpu level vector pc (now (mem .entry)) ⌝ }
+    ensures { λ r. ⌜ outcome r (now (mem .exit)) ≡ enteredOf given cpu level vector pc (mapped (now (mem .entry))) ⌝ }
 {
     let then = with_status(cpu, handling(level, cpu.sr) as u32);
     let g = then.r;
     let sp = address(&g, 7);
-    let high = minus(sp / 4 * 4, 4);
-    let low = minus(high, 4);
-    let table = plus(cpu.vbr, (vector as u32) * 4);
-    let w = frame_long(sp, vector, cpu.sr);
-    if mem.len() < high as usize + 4 {
-        return refusal(given, Reply::NotInside);
-    }
-    if mem.len() < low as usize + 4 {
-        return refusal(given, Reply::NotInside);
-    }
-    if mem.len() < table as usize + 4 {
-        return refusal(given, Reply::NotInside);
-    }
-    store_frame(mem, high, low, pc, w);
+    let above = minus(sp / 4 * 4, 4);
+    let frame = minus(above, 4);
+    let high = match access(&*mem, above, 4) {
+        Access::Here(at) => at,
+        Access::Not(x) => return faulted(given, x),
+    };
+    let low = match access(&*mem, frame, 4) {
+        Access::Here(at) => at,
+        Access::Not(x) => return faulted(given, x),
+    };
+    let table = match access(&*mem, plus(cpu.vbr, (vector as u32) * 4), 4) {
+        Access::Here(at) => at,
+        Access::Not(x) => return faulted(given, x),
+    };
+    store_frame(mem, high, low, pc, frame_long(sp, vector, cpu.sr));
     let handler = long_at(mem, table as usize);
-    let next = handler_state(then, low, handler);
+    let next = handler_state(then, frame, handler);
     Stepped {
         reply: Reply::Done,
         vector: vector,
@@ -103,20 +115,20 @@ fn returned(cpu: Cpu, sp: u32, w: u32, pc: u32) -> Cpu
     with_pc(with_status(with_address(cpu, 7, plus(sp, up)), w), pc)
 }
 
+// Return from an exception, or its refusal.
 pub fn left(given: Cpu, cpu: Cpu, mem: &[u8]) -> Stepped
-    ensures { λ r. ⌜ outcome r (now (mem .entry)) ≡ leftOf given cpu (now (mem .entry)) ⌝ }
+    ensures { λ r. ⌜ outcome r (now (mem .entry)) ≡ leftOf given cpu (mapped (now (mem .entry))) ⌝ }
 {
     let g = cpu.r;
     let sp = address(&g, 7);
-    let high = plus(sp, 4);
-    if mem.len() < sp as usize + 4 {
-        return refusal(given, Reply::NotInside);
-    }
-    if mem.len() < high as usize + 4 {
-        return refusal(given, Reply::NotInside);
-    }
-    let w = long_at(mem, sp as usize);
-    let pc = long_at(mem, high as usize);
+    let w = match load(mem, sp, Size::Long) {
+        Got::Value(w) => w,
+        Got::Fault(x) => return faulted(given, x),
+    };
+    let pc = match load(mem, plus(sp, 4), Size::Long) {
+        Got::Value(pc) => pc,
+        Got::Fault(x) => return faulted(given, x),
+    };
     let next = returned(cpu, sp, w, pc);
     Stepped {
         reply: Reply::Done,

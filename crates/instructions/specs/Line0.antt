@@ -20,7 +20,7 @@ use Rattle.manual.specs.Word.{plus}
 use Rattle.manual.specs.Bits.{logic, bitOf, changedBit, reversedBits, reversedBytes}
 use Rattle.manual.specs.Registers.{dataOf, noWrite, writeData}
 use Rattle.manual.specs.Flags.{moveCodes, keptCodes, sumCodes, compareCodes, testCodes, sumOrDifference, subtracted}
-use Rattle.manual.specs.Memory.{load}
+use Rattle.manual.specs.Memory.{Memory, load}
 use Rattle.manual.specs.Address.{operand, extension, moved, locate, fetch, value}
 use Rattle.manual.specs.Change.{done, reading, put, illegal}
 use Rattle.instructions.specs.Rows.{placeIn}
@@ -40,7 +40,7 @@ findFirstOne g at sr op =
     done (plus at 2) (moveCodes Long v sr) noWrite (writeData op (leadingZeros 32 v))
 
 -- ORI, ANDI and EORI #imm,Dx
-unfoldable pub logicImmediate : Logic → List ℕ → ℕ → ℕ → List ℕ → ℕ → Change
+unfoldable pub logicImmediate : Logic → List ℕ → ℕ → ℕ → Memory → ℕ → Change
 logicImmediate l g at sr m op =
     let pc : ℕ = plus at 2 in
     reading (load m pc Long) λ v.
@@ -48,7 +48,7 @@ logicImmediate l g at sr m op =
     done (plus pc 4) (moveCodes Long r sr) noWrite (writeData op r)
 
 -- ADDI and SUBI #imm,Dx
-unfoldable pub sumImmediate : Bool → List ℕ → ℕ → List ℕ → ℕ → Change
+unfoldable pub sumImmediate : Bool → List ℕ → ℕ → Memory → ℕ → Change
 sumImmediate add g at m op =
     let pc : ℕ = plus at 2 in
     reading (load m pc Long) λ v.
@@ -56,7 +56,7 @@ sumImmediate add g at m op =
     done (plus pc 4) (sumCodes r) noWrite (writeData op (r .value))
 
 -- CMPI #imm,Dx
-unfoldable pub compareImmediate : Size → List ℕ → ℕ → ℕ → List ℕ → ℕ → Change
+unfoldable pub compareImmediate : Size → List ℕ → ℕ → ℕ → Memory → ℕ → Change
 compareImmediate z g at sr m op =
     let pc : ℕ = plus at 2 in
     reading (value g m pc Immediate z) λ v.
@@ -69,7 +69,7 @@ bitOfData g pc sr op n =
     done pc (testCodes sr (not (bitOf (n % 32) v))) noWrite (writeData op (changedBit (op / 64) (n % 32) v))
 
 -- of a byte anywhere else: bit n modulo 8. A test stores nothing
-unfoldable pub bitOfByte : List ℕ → ℕ → ℕ → List ℕ → ℕ → ℕ → Change
+unfoldable pub bitOfByte : List ℕ → ℕ → ℕ → Memory → ℕ → ℕ → Change
 bitOfByte g pc sr m op n =
     let target : Operand = operand (op / 8 % 8) (op % 8) in
     let place : Place = locate g m pc target Byte in
@@ -79,21 +79,21 @@ bitOfByte g pc sr m op n =
     (done next (testCodes sr (not (bitOf (n % 8) v))) (moved g target Byte) noWrite)
     (put g next (testCodes sr (not (bitOf (n % 8) v))) (moved g target Byte) noWrite place Byte (changedBit (op / 64) (n % 8) v))
 
-unfoldable pub bitOperation : List ℕ → ℕ → ℕ → List ℕ → ℕ → ℕ → Change
+unfoldable pub bitOperation : List ℕ → ℕ → ℕ → Memory → ℕ → ℕ → Change
 bitOperation g pc sr m op n = cond (eqb (op / 8 % 8) 0) (bitOfData g pc sr op n) (bitOfByte g pc sr m op n)
 
 -- the bit's number is in Dn, or in the word that follows
-unfoldable pub bitByRegister : List ℕ → ℕ → ℕ → List ℕ → ℕ → Change
+unfoldable pub bitByRegister : List ℕ → ℕ → ℕ → Memory → ℕ → Change
 bitByRegister g at sr m op = bitOperation g (plus at 2) sr m op (dataOf g (op / 512))
 
-unfoldable pub bitByImmediate : List ℕ → ℕ → ℕ → List ℕ → ℕ → Change
+unfoldable pub bitByImmediate : List ℕ → ℕ → ℕ → Memory → ℕ → Change
 bitByImmediate g at sr m op =
     reading (load m (plus at 2) Word) λ n.
     bitOperation g (plus at 4) sr m op n
 
 -- ---- the rows of the line, from 0 on; every other word is illegal
 
-unfoldable pub line0 : ℕ → List ℕ → ℕ → ℕ → List ℕ → ℕ → Change
+unfoldable pub line0 : ℕ → List ℕ → ℕ → ℕ → Memory → ℕ → Change
 line0 row g at sr m op =
     getD
     (bitReverse g at sr op ∷

@@ -24,7 +24,7 @@ use Rattle.manual.specs.Divide.{quotient, signedQuotient, overflowCodes}
 use Rattle.manual.specs.Registers.{dataOf, addressOf, noWrite, writeData, writeAddress}
 use Rattle.manual.specs.Flags.{flagX, flagV, moveCodes, keptCodes, sumCodes, extendedCodes, subtracted}
 use Rattle.manual.specs.Exceptions.{supervisor}
-use Rattle.manual.specs.Memory.{load}
+use Rattle.manual.specs.Memory.{Memory, load}
 use Rattle.manual.specs.Address.{operand, extension, source, moved, locate, fetch, control}
 use Rattle.manual.specs.Change.{done, store, acting, enter, enterAfter, illegal, privilege, notCarried, jump, push, reading, reaching, put}
 use Rattle.instructions.specs.Rows.{placeIn}
@@ -40,33 +40,33 @@ unfoldable pub nothing : ℕ → ℕ → Change
 nothing at sr = jump sr (plus at 2)
 
 -- LEA: the address itself into An
-unfoldable pub lea : List ℕ → ℕ → ℕ → List ℕ → ℕ → Change
+unfoldable pub lea : List ℕ → ℕ → ℕ → Memory → ℕ → Change
 lea g at sr m op =
     let pc : ℕ = plus at 2 in
     reaching sr at (control g m pc (named op)) λ a.
     done (plus pc (extension (named op) Long)) (keptCodes sr) noWrite (writeAddress (op / 512) a)
 
 -- PEA: the address is pushed
-unfoldable pub pea : List ℕ → ℕ → ℕ → List ℕ → ℕ → Change
+unfoldable pub pea : List ℕ → ℕ → ℕ → Memory → ℕ → Change
 pea g at sr m op =
     let pc : ℕ = plus at 2 in
     reaching sr at (control g m pc (named op)) λ a.
     push g sr (plus pc (extension (named op) Long)) a
 
 -- JSR: the address of the next instruction is pushed
-unfoldable pub jsr : List ℕ → ℕ → ℕ → List ℕ → ℕ → Change
+unfoldable pub jsr : List ℕ → ℕ → ℕ → Memory → ℕ → Change
 jsr g at sr m op =
     let pc : ℕ = plus at 2 in
     reaching sr at (control g m pc (named op)) λ a.
     push g sr a (plus pc (extension (named op) Long))
 
-unfoldable pub jmp : List ℕ → ℕ → ℕ → List ℕ → ℕ → Change
+unfoldable pub jmp : List ℕ → ℕ → ℕ → Memory → ℕ → Change
 jmp g at sr m op =
     reaching sr at (control g m (plus at 2) (named op)) λ a.
     jump sr a
 
 -- RTS: the program counter is popped
-unfoldable pub rts : List ℕ → ℕ → List ℕ → Change
+unfoldable pub rts : List ℕ → ℕ → Memory → Change
 rts g sr m =
     let sp : ℕ = addressOf g 7 in
     reading (load m sp Long) λ v.
@@ -77,7 +77,7 @@ unfoldable pub trap : ℕ → ℕ → ℕ → Change
 trap at sr op = enter sr (32 + op % 16) (plus at 2)
 
 -- LINK: An is pushed and takes the stack pointer, to which the displacement is added
-unfoldable pub link : List ℕ → ℕ → ℕ → List ℕ → ℕ → Change
+unfoldable pub link : List ℕ → ℕ → ℕ → Memory → ℕ → Change
 link g at sr m op =
     let pc : ℕ = plus at 2 in
     let sp : ℕ = minus (addressOf g 7) 4 in
@@ -85,7 +85,7 @@ link g at sr m op =
     store (plus pc 2) (keptCodes sr) (writeAddress op sp) (writeAddress 7 (plus sp (signExtended Word d))) sp Long (addressOf g op)
 
 -- UNLK: the stack pointer is An, and An is popped
-unfoldable pub unlk : List ℕ → ℕ → ℕ → List ℕ → ℕ → Change
+unfoldable pub unlk : List ℕ → ℕ → ℕ → Memory → ℕ → Change
 unlk g at sr m op =
     let a : ℕ = addressOf g op in
     reading (load m a Long) λ v.
@@ -97,14 +97,14 @@ unfoldable pub rte : ℕ → ℕ → Change
 rte at sr = cond (supervisor sr) (acting sr (plus at 2) noWrite Return) (privilege at sr)
 
 -- 12. STOP, STRLDSR and MOVE to SR fetch and read before the privilege test. The manual: the violation comes before any effect
-unfoldable pub stop : ℕ → ℕ → List ℕ → Change
+unfoldable pub stop : ℕ → ℕ → Memory → Change
 stop at sr m =
     let pc : ℕ = plus at 2 in
     reading (load m pc Word) λ v.
     cond (supervisor sr) (acting sr (plus pc 2) noWrite (Stop v)) (privilege at sr)
 
 -- STRLDSR: the second word is 0x46FC
-unfoldable pub stldsr : ℕ → ℕ → List ℕ → Change
+unfoldable pub stldsr : ℕ → ℕ → Memory → Change
 stldsr at sr m =
     let pc : ℕ = plus at 2 in
     reading (load m pc Word) λ w.
@@ -132,7 +132,7 @@ fromSr g at sr op =
     (illegal at sr))
     (privilege at sr)
 
-unfoldable pub toSr : List ℕ → ℕ → ℕ → List ℕ → ℕ → Change
+unfoldable pub toSr : List ℕ → ℕ → ℕ → Memory → ℕ → Change
 toSr g at sr m op =
     let from : Source = source g m (plus at 2) op Word in
     reading (from .got) λ v.
@@ -141,7 +141,7 @@ toSr g at sr m op =
 unfoldable pub fromCcr : List ℕ → ℕ → ℕ → ℕ → Change
 fromCcr g at sr op = done (plus at 2) (keptCodes sr) noWrite (writeData op (merged Word (dataOf g op) (keptCodes sr)))
 
-unfoldable pub toCcr : List ℕ → ℕ → List ℕ → ℕ → Change
+unfoldable pub toCcr : List ℕ → ℕ → Memory → ℕ → Change
 toCcr g at m op =
     let from : Source = source g m (plus at 2) op Word in
     reading (from .got) λ v.
@@ -154,7 +154,7 @@ toCcr g at m op =
 unfoldable pub many : Bool → ℕ → ℕ → Action
 many toMemory mask a = cond toMemory (StoreMany mask a) (LoadMany mask a)
 
-unfoldable pub moveMany : Bool → List ℕ → ℕ → ℕ → List ℕ → ℕ → Change
+unfoldable pub moveMany : Bool → List ℕ → ℕ → ℕ → Memory → ℕ → Change
 moveMany toMemory g at sr m op =
     let pc : ℕ = plus at 2 in
     let a : ℕ = addressOf g op in
@@ -219,13 +219,13 @@ complement g at sr op =
 -- ---- one operand
 
 -- CLR: the operand is not read
-unfoldable pub clear : List ℕ → ℕ → ℕ → List ℕ → ℕ → Change
+unfoldable pub clear : List ℕ → ℕ → ℕ → Memory → ℕ → Change
 clear g at sr m op =
     let z : Size = sizeOf (op / 64) in
     let pc : ℕ = plus at 2 in
     put g (plus pc (extension (named op) z)) (moveCodes z 0 sr) (moved g (named op) z) noWrite (locate g m pc (named op) z) z 0
 
-unfoldable pub test : List ℕ → ℕ → ℕ → List ℕ → ℕ → Change
+unfoldable pub test : List ℕ → ℕ → ℕ → Memory → ℕ → Change
 test g at sr m op =
     let z : Size = sizeOf (op / 64) in
     let from : Source = source g m (plus at 2) op z in
@@ -233,7 +233,7 @@ test g at sr m op =
     done (from .next) (moveCodes z v sr) (from .moved) noWrite
 
 -- TAS: a byte is tested, and its highest bit set
-unfoldable pub testAndSet : List ℕ → ℕ → ℕ → List ℕ → ℕ → Change
+unfoldable pub testAndSet : List ℕ → ℕ → ℕ → Memory → ℕ → Change
 testAndSet g at sr m op =
     let pc : ℕ = plus at 2 in
     let place : Place = locate g m pc (named op) Byte in
@@ -241,7 +241,7 @@ testAndSet g at sr m op =
     put g (plus pc (extension (named op) Byte)) (moveCodes Byte v sr) (moved g (named op) Byte) noWrite place Byte (withBit 7 true v)
 
 -- MULU.L and MULS.L: bits 14 to 12 of the second word name the register, and bit 11 says signed
-unfoldable pub multiply : List ℕ → ℕ → ℕ → List ℕ → ℕ → Change
+unfoldable pub multiply : List ℕ → ℕ → ℕ → Memory → ℕ → Change
 multiply g at sr m op =
     let pc : ℕ = plus at 2 in
     reading (load m pc Word) λ w.
@@ -259,7 +259,7 @@ divided w d v = cond (eqb (w / 0x800 % 2) 1) (signedQuotient d v) (quotient d v)
 abbrev pub quotientTo : ℕ → Quotient → Write
 quotientTo w q = cond (eqb (w / 0x1000 % 8) (w % 8)) (writeData w (q .quotient)) (writeData w (q .remainder))
 
-unfoldable pub divide : List ℕ → ℕ → ℕ → List ℕ → ℕ → Change
+unfoldable pub divide : List ℕ → ℕ → ℕ → Memory → ℕ → Change
 divide g at sr m op =
     let pc : ℕ = plus at 2 in
     reading (load m pc Word) λ w.
@@ -274,7 +274,7 @@ divide g at sr m op =
 
 -- ---- the rows of the line, from 20 on; every other word is illegal
 
-unfoldable pub line4 : ℕ → List ℕ → ℕ → ℕ → ℕ → List ℕ → ℕ → Change
+unfoldable pub line4 : ℕ → List ℕ → ℕ → ℕ → ℕ → Memory → ℕ → Change
 line4 row g at sr other m op =
     getD
     (nothing at sr ∷

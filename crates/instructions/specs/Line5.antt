@@ -18,6 +18,7 @@ use Rattle.manual.specs.Flags.{keptCodes, sumCodes, sumOrDifference}
 use Rattle.manual.specs.Conditions.{condition}
 use Rattle.manual.specs.Change.{done, jump, illegal}
 use Rattle.manual.specs.Differences.{anySize}
+use Rattle.manual.specs.Memory.{Memory}
 use Rattle.instructions.specs.Rows.{placeIn}
 use Rattle.instructions.specs.Line9D.{toPlace, moreOrLess}
 
@@ -42,7 +43,7 @@ quickData g at op =
     let r : Sum = sumOrDifference (quickAdds op) z (quickNumber op) old false in
     done (plus at 2) (sumCodes r) noWrite (writeData op (merged z old (r .value)))
 
-unfoldable pub quick : List ℕ → ℕ → List ℕ → ℕ → Change
+unfoldable pub quick : List ℕ → ℕ → Memory → ℕ → Change
 quick g at m op =
     cond (eqb (op / 8 % 8) 0) (quickData g at op) (toPlace (quickAdds op) (anySize op) g at m op (quickNumber op))
 
@@ -57,7 +58,7 @@ skip n at sr = jump sr (plus at (2 + n))
 
 -- ---- the rows of the line, from 60 on
 
-unfoldable pub line5 : ℕ → List ℕ → ℕ → ℕ → List ℕ → ℕ → Change
+unfoldable pub line5 : ℕ → List ℕ → ℕ → ℕ → Memory → ℕ → Change
 line5 row g at sr m op =
     getD
     (skip 2 at sr ∷

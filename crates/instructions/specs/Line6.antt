@@ -16,7 +16,7 @@ use Rattle.manual.specs.declared.Got.{Got}
 use Rattle.manual.specs.declared.Got.the-variants.{Value, Fault as NoValue}
 use Rattle.manual.specs.Word.{plus, signExtended}
 use Rattle.manual.specs.Conditions.{condition}
-use Rattle.manual.specs.Memory.{load}
+use Rattle.manual.specs.Memory.{Memory, load}
 use Rattle.manual.specs.Change.{jump, push, reading}
 use Rattle.instructions.specs.Rows.{placeIn}
 
@@ -25,7 +25,7 @@ abbrev pub extended : Got → Got
 extended (Value v) = Value (signExtended Word v)
 extended (NoValue x) = NoValue x
 
-unfoldable pub displacement : List ℕ → ℕ → ℕ → Got
+unfoldable pub displacement : Memory → ℕ → ℕ → Got
 displacement m pc low =
     cond (eqb low 0)
     (extended (load m pc Word))
@@ -35,19 +35,19 @@ unfoldable pub displacementBytes : ℕ → ℕ
 displacementBytes low = cond (eqb low 0) 2 (cond (eqb low 255) 4 0)
 
 -- the displacement is from the word after the opcode word
-unfoldable pub bra : ℕ → ℕ → List ℕ → ℕ → Change
+unfoldable pub bra : ℕ → ℕ → Memory → ℕ → Change
 bra at sr m op =
     let pc : ℕ = plus at 2 in
     reading (displacement m pc (op % 256)) λ d.
     jump sr (plus pc d)
 
-unfoldable pub bsr : List ℕ → ℕ → ℕ → List ℕ → ℕ → Change
+unfoldable pub bsr : List ℕ → ℕ → ℕ → Memory → ℕ → Change
 bsr g at sr m op =
     let pc : ℕ = plus at 2 in
     reading (displacement m pc (op % 256)) λ d.
     push g sr (plus pc d) (plus pc (displacementBytes (op % 256)))
 
-unfoldable pub bcc : ℕ → ℕ → List ℕ → ℕ → Change
+unfoldable pub bcc : ℕ → ℕ → Memory → ℕ → Change
 bcc at sr m op =
     let pc : ℕ = plus at 2 in
     reading (displacement m pc (op % 256)) λ d.
@@ -55,5 +55,5 @@ bcc at sr m op =
 
 -- ---- the rows of the line, from 69 on
 
-unfoldable pub line6 : ℕ → List ℕ → ℕ → ℕ → List ℕ → ℕ → Change
+unfoldable pub line6 : ℕ → List ℕ → ℕ → ℕ → Memory → ℕ → Change
 line6 row g at sr m op = getD (bra at sr m op ∷ bsr g at sr m op ∷ []) (placeIn 69 row) (bcc at sr m op)

@@ -17,6 +17,7 @@ use Rattle.manual.specs.Registers.{noWrite, writeData}
 use Rattle.manual.specs.Flags.{moveCodes}
 use Rattle.manual.specs.Address.{source}
 use Rattle.manual.specs.Change.{done, reading}
+use Rattle.manual.specs.Memory.{Memory}
 use Rattle.instructions.specs.Rows.{placeIn}
 
 -- MOVEQ: the low byte, sign-extended
@@ -26,14 +27,14 @@ moveQuick at sr op =
     done (plus at 2) (moveCodes Long v sr) noWrite (writeData (op / 512) v)
 
 -- MVS and MVZ: a byte or, by bit 6, a word, sign-extended or not
-unfoldable pub moveSigned : List ℕ → ℕ → ℕ → List ℕ → ℕ → Change
+unfoldable pub moveSigned : List ℕ → ℕ → ℕ → Memory → ℕ → Change
 moveSigned g at sr m op =
     let z : Size = sizeOf (op / 64 % 2) in
     let from : Source = source g m (plus at 2) op z in
     reading (from .got) λ v.
     done (from .next) (moveCodes Long (signExtended z v) sr) (from .moved) (writeData (op / 512) (signExtended z v))
 
-unfoldable pub moveZero : List ℕ → ℕ → ℕ → List ℕ → ℕ → Change
+unfoldable pub moveZero : List ℕ → ℕ → ℕ → Memory → ℕ → Change
 moveZero g at sr m op =
     let from : Source = source g m (plus at 2) op (sizeOf (op / 64 % 2)) in
     reading (from .got) λ v.
@@ -41,5 +42,5 @@ moveZero g at sr m op =
 
 -- ---- the rows of the line, from 72 on
 
-unfoldable pub line7 : ℕ → List ℕ → ℕ → ℕ → List ℕ → ℕ → Change
+unfoldable pub line7 : ℕ → List ℕ → ℕ → ℕ → Memory → ℕ → Change
 line7 row g at sr m op = getD (moveSigned g at sr m op ∷ moveZero g at sr m op ∷ []) (placeIn 72 row) (moveQuick at sr op)

@@ -18,10 +18,11 @@ use Rattle.manual.specs.Flags.{flagX, keptCodes, sumCodes, extendedCodes, sumOr
 use Rattle.manual.specs.Address.{operand, extension, source, moved, locate, fetch}
 use Rattle.manual.specs.Change.{done, reading, put, illegal}
 use Rattle.manual.specs.Differences.{anySize}
+use Rattle.manual.specs.Memory.{Memory}
 use Rattle.instructions.specs.Rows.{placeIn}
 
 -- ADD <ea>,Dn and SUB <ea>,Dn
-unfoldable pub toData : Bool → List ℕ → ℕ → List ℕ → ℕ → Change
+unfoldable pub toData : Bool → List ℕ → ℕ → Memory → ℕ → Change
 toData add g at m op =
     let z : Size = anySize op in
     let from : Source = source g m (plus at 2) op z in
@@ -31,7 +32,7 @@ toData add g at m op =
     done (from .next) (sumCodes r) (from .moved) (writeData (op / 512) (merged z old (r .value)))
 
 -- a number is added to a place or taken from it: ADD Dn,<ea> and SUB Dn,<ea>, ADDQ and SUBQ
-unfoldable pub toPlace : Bool → Size → List ℕ → ℕ → List ℕ → ℕ → ℕ → Change
+unfoldable pub toPlace : Bool → Size → List ℕ → ℕ → Memory → ℕ → ℕ → Change
 toPlace add z g at m op n =
     let target : Operand = operand (op / 8 % 8) (op % 8) in
     let pc : ℕ = plus at 2 in
@@ -40,7 +41,7 @@ toPlace add z g at m op n =
     let r : Sum = sumOrDifference add z n v false in
     put g (plus pc (extension target z)) (sumCodes r) (moved g target z) noWrite place z (r .value)
 
-unfoldable pub toMemory : Bool → List ℕ → ℕ → List ℕ → ℕ → Change
+unfoldable pub toMemory : Bool → List ℕ → ℕ → Memory → ℕ → Change
 toMemory add g at m op = toPlace add (anySize op) g at m op (dataOf g (op / 512))
 
 -- a long is added to another or taken from it
@@ -48,7 +49,7 @@ unfoldable pub moreOrLess : Bool → ℕ → ℕ → ℕ
 moreOrLess add old v = cond add (plus old v) (minus old v)
 
 -- ADDA and SUBA: the source sign-extended, all 32 bits of An as the source's move left it, and no condition codes
-unfoldable pub toAddress : Bool → Size → List ℕ → ℕ → ℕ → List ℕ → ℕ → Change
+unfoldable pub toAddress : Bool → Size → List ℕ → ℕ → ℕ → Memory → ℕ → Change
 toAddress add z g at sr m op =
     let from : Source = source g m (plus at 2) op z in
     reading (from .got) λ v.
@@ -65,7 +66,7 @@ withX add g at sr op =
 
 -- ---- the rows of the lines, from 76 and 107 on
 
-unfoldable pub sums : ℕ → Bool → ℕ → List ℕ → ℕ → ℕ → List ℕ → ℕ → Change
+unfoldable pub sums : ℕ → Bool → ℕ → List ℕ → ℕ → ℕ → Memory → ℕ → Change
 sums first add row g at sr m op =
     getD
     (withX add g at sr op ∷

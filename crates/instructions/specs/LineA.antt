@@ -21,7 +21,7 @@ use Rattle.manual.specs.declared.Action.the-variants.{Nothing, Accumulate, SetA
 use Rattle.manual.specs.Word.{plus, minus, signExtended}
 use Rattle.manual.specs.Registers.{addressOf, general, noWrite, writeAddress, writeGeneral}
 use Rattle.manual.specs.Flags.{codes, moveCodes, keptCodes}
-use Rattle.manual.specs.Memory.{load}
+use Rattle.manual.specs.Memory.{Memory, load}
 use Rattle.manual.specs.Address.{operand, extension, source, moved, locate}
 use Rattle.manual.specs.Change.{done, acting, enter, enterAfter, notCarried, reading, put}
 use Rattle.manual.specs.Emac.{has, modeOf, accOf, readAcc, readExt}
@@ -60,7 +60,7 @@ setting Macsr op v = SetMacsr v
 setting Mask op v = SetMask v
 
 -- 40. From every mode. The manual: from a register or an immediate
-unfoldable pub toEmac : EmacPart → List ℕ → ℕ → ℕ → List ℕ → ℕ → Change
+unfoldable pub toEmac : EmacPart → List ℕ → ℕ → ℕ → Memory → ℕ → Change
 toEmac part g at sr m op =
     let from : Source = source g m (plus at 2) op Long in
     reading (from .got) λ v.
@@ -70,7 +70,7 @@ toEmac part g at sr m op =
 unfoldable pub threeBits : ℕ → ℕ
 threeBits op = cond (eqb (op / 512 % 8) 0) 0xFFFF_FFFF (op / 512 % 8)
 
-unfoldable pub moveThree : List ℕ → ℕ → ℕ → List ℕ → ℕ → Change
+unfoldable pub moveThree : List ℕ → ℕ → ℕ → Memory → ℕ → Change
 moveThree g at sr m op =
     let target : Operand = operand (op / 8 % 8) (op % 8) in
     let pc : ℕ = plus at 2 in
@@ -78,7 +78,7 @@ moveThree g at sr m op =
     put g (plus pc (extension target Long)) (moveCodes Long v sr) (moved g target Long) noWrite (locate g m pc target Long) Long v
 
 -- 14. A word of the line with no row of its own reads a long operand first. The manual: vector 10, and no operand
-unfoldable pub unassigned : List ℕ → ℕ → ℕ → List ℕ → ℕ → Change
+unfoldable pub unassigned : List ℕ → ℕ → ℕ → Memory → ℕ → Change
 unassigned g at sr m op =
     let from : Source = source g m (plus at 2) op Long in
     reading (from .got) λ v.
@@ -110,7 +110,7 @@ unfoldable pub loadAddress : ℕ → ℕ → ℕ → ℕ
 loadAddress mask w base = cond (eqb (w / 32 % 2) 1) (bitAnd base mask) base
 
 -- with a load, the low bit of the accumulator's number is inverted. The address register is written after the loaded one
-unfoldable pub macLoad : List ℕ → ℕ → ℕ → ℕ → List ℕ → ℕ → ℕ → ℕ → Change
+unfoldable pub macLoad : List ℕ → ℕ → ℕ → ℕ → Memory → ℕ → ℕ → ℕ → Change
 macLoad g next sr mask m op w base =
     let a : ℕ = loadAddress mask w base in
     reading (load m a Long) λ v.
@@ -123,7 +123,7 @@ macLoad g next sr mask m op w base =
     }
 
 -- modes 2 to 5; modes 6 and 7 are no instruction of the line. Word operands, bit 11 of w clear, are not carried
-unfoldable pub macWithLoad : List ℕ → ℕ → ℕ → ℕ → List ℕ → ℕ → ℕ → Change
+unfoldable pub macWithLoad : List ℕ → ℕ → ℕ → ℕ → Memory → ℕ → ℕ → Change
 macWithLoad g at sr mask m op w =
     let mode : ℕ = op / 8 % 8 in
     let a : ℕ = addressOf g op in
@@ -134,7 +134,7 @@ macWithLoad g at sr mask m op w =
     macLoad g (plus at 6) sr mask m op w (plus a (signExtended Word d)))
     (macLoad g (plus at 4) sr mask m op w (cond (eqb mode 4) (minus a 4) a))))
 
-unfoldable pub mac : List ℕ → ℕ → ℕ → ℕ → List ℕ → ℕ → Change
+unfoldable pub mac : List ℕ → ℕ → ℕ → ℕ → Memory → ℕ → Change
 mac g at sr mask m op =
     reading (load m (plus at 2) Word) λ w.
     cond (eqb (op / 16 % 4) 0)
@@ -143,7 +143,7 @@ mac g at sr mask m op =
 
 -- ---- the rows of the line, from 86 on
 
-unfoldable pub lineA : ℕ → List ℕ → ℕ → ℕ → Emac → List ℕ → ℕ → Change
+unfoldable pub lineA : ℕ → List ℕ → ℕ → ℕ → Emac → Memory → ℕ → Change
 lineA row g at sr e m op =
     getD
     (macsrToCcr at (e .macsr) ∷

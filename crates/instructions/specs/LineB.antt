@@ -21,10 +21,11 @@ use Rattle.manual.specs.Flags.{moveCodes, compareCodes, subtracted}
 use Rattle.manual.specs.Address.{operand, extension, source, moved, locate, fetch}
 use Rattle.manual.specs.Change.{done, reading, put}
 use Rattle.manual.specs.Differences.{anySize}
+use Rattle.manual.specs.Memory.{Memory}
 use Rattle.instructions.specs.Rows.{placeIn}
 
 -- CMP <ea>,Dn
-unfoldable pub compareData : List ℕ → ℕ → ℕ → List ℕ → ℕ → Change
+unfoldable pub compareData : List ℕ → ℕ → ℕ → Memory → ℕ → Change
 compareData g at sr m op =
     let z : Size = sizeOf (op / 64) in
     let from : Source = source g m (plus at 2) op z in
@@ -32,7 +33,7 @@ compareData g at sr m op =
     done (from .next) (compareCodes sr (subtracted z v (dataOf g (op / 512)) false)) (from .moved) noWrite
 
 -- CMPA <ea>,An: the source sign-extended, all 32 bits of An as the source's move left it
-unfoldable pub compareAddress : Size → List ℕ → ℕ → ℕ → List ℕ → ℕ → Change
+unfoldable pub compareAddress : Size → List ℕ → ℕ → ℕ → Memory → ℕ → Change
 compareAddress z g at sr m op =
     let from : Source = source g m (plus at 2) op z in
     reading (from .got) λ v.
@@ -41,7 +42,7 @@ compareAddress z g at sr m op =
 
 -- AND Dn,<ea> and EOR Dn,<ea>
 -- 24. To An, the low part of An is combined with all of Dn, and all 32 bits are stored. The manual: no such form
-unfoldable pub logicToPlace : Logic → List ℕ → ℕ → ℕ → List ℕ → ℕ → Change
+unfoldable pub logicToPlace : Logic → List ℕ → ℕ → ℕ → Memory → ℕ → Change
 logicToPlace l g at sr m op =
     let z : Size = anySize op in
     let target : Operand = operand (op / 8 % 8) (op % 8) in
@@ -53,7 +54,7 @@ logicToPlace l g at sr m op =
 
 -- ---- the rows of the line, from 99 on
 
-unfoldable pub lineB : ℕ → List ℕ → ℕ → ℕ → List ℕ → ℕ → Change
+unfoldable pub lineB : ℕ → List ℕ → ℕ → ℕ → Memory → ℕ → Change
 lineB row g at sr m op =
     getD
     (compareAddress Word g at sr m op ∷ compareAddress Long g at sr m op ∷ compareData g at sr m op ∷ [])

@@ -22,11 +22,12 @@ use Rattle.manual.specs.Flags.{moveCodes}
 use Rattle.manual.specs.Address.{source}
 use Rattle.manual.specs.Change.{done, reading}
 use Rattle.manual.specs.Differences.{anySize}
+use Rattle.manual.specs.Memory.{Memory}
 use Rattle.instructions.specs.Rows.{placeIn}
 use Rattle.instructions.specs.LineB.{logicToPlace}
 
 -- AND <ea>,Dn
-unfoldable pub logicToData : Logic → List ℕ → ℕ → ℕ → List ℕ → ℕ → Change
+unfoldable pub logicToData : Logic → List ℕ → ℕ → ℕ → Memory → ℕ → Change
 logicToData l g at sr m op =
     let z : Size = anySize op in
     let from : Source = source g m (plus at 2) op z in
@@ -39,7 +40,7 @@ logicToData l g at sr m op =
 unfoldable pub product : Bool → ℕ → ℕ → ℕ
 product signs x y = cond signs (signedWordProduct x y) (wordProduct x y)
 
-unfoldable pub multiplyWords : Bool → List ℕ → ℕ → ℕ → List ℕ → ℕ → Change
+unfoldable pub multiplyWords : Bool → List ℕ → ℕ → ℕ → Memory → ℕ → Change
 multiplyWords signs g at sr m op =
     let from : Source = source g m (plus at 2) op Word in
     reading (from .got) λ v.
@@ -48,7 +49,7 @@ multiplyWords signs g at sr m op =
 
 -- ---- the rows of the line, from 103 on
 
-unfoldable pub lineC : ℕ → List ℕ → ℕ → ℕ → List ℕ → ℕ → Change
+unfoldable pub lineC : ℕ → List ℕ → ℕ → ℕ → Memory → ℕ → Change
 lineC row g at sr m op =
     getD
     (multiplyWords false g at sr m op ∷ multiplyWords true g at sr m op ∷ logicToData And g at sr m op ∷ [])

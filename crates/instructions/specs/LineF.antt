@@ -22,6 +22,7 @@ use Rattle.manual.specs.Flags.{keptCodes}
 use Rattle.manual.specs.Exceptions.{supervisor}
 use Rattle.manual.specs.Address.{operand, extension, moved, locate, control}
 use Rattle.manual.specs.Change.{done, enter, privilege, jump, refused, locating}
+use Rattle.manual.specs.Memory.{Memory}
 use Rattle.instructions.specs.Rows.{placeIn}
 
 -- 9. WDEBUG is not privileged, takes every mode, and skips its second word unread. The manual: privileged, modes 2 and 5
@@ -30,7 +31,7 @@ debugEnds sr pc (At (Value a)) words skipped = jump sr (plus (plus pc words) ski
 debugEnds sr pc (At (NoValue x)) words skipped = refused x
 debugEnds sr pc NoAddress words skipped = jump sr (plus pc skipped)
 
-unfoldable pub writeDebug : List ℕ → ℕ → ℕ → List ℕ → ℕ → Change
+unfoldable pub writeDebug : List ℕ → ℕ → ℕ → Memory → ℕ → Change
 writeDebug g at sr m op =
     let target : Operand = operand (op / 8 % 8) (op % 8) in
     let pc : ℕ = plus at 2 in
@@ -41,7 +42,7 @@ unfoldable pub cacheLine : ℕ → ℕ → Change
 cacheLine at sr = cond (supervisor sr) (jump sr (plus at 2)) (privilege at sr)
 
 -- 31. WDDATA does not read its operand; its register moves. The manual: the operand is read
-unfoldable pub writeDebugData : List ℕ → ℕ → ℕ → List ℕ → ℕ → Change
+unfoldable pub writeDebugData : List ℕ → ℕ → ℕ → Memory → ℕ → Change
 writeDebugData g at sr m op =
     let z : Size = sizeOf (op / 64) in
     let target : Operand = operand (op / 8 % 8) (op % 8) in
@@ -50,7 +51,7 @@ writeDebugData g at sr m op =
 
 -- ---- the rows of the line, from 120 on; every other word enters vector 11
 
-unfoldable pub lineF : ℕ → List ℕ → ℕ → ℕ → List ℕ → ℕ → Change
+unfoldable pub lineF : ℕ → List ℕ → ℕ → ℕ → Memory → ℕ → Change
 lineF row g at sr m op =
     getD
     (writeDebug g at sr m op ∷ cacheLine at sr ∷ writeDebugData g at sr m op ∷ [])

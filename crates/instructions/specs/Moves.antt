@@ -17,15 +17,16 @@ use Rattle.manual.specs.Registers.{dataOf, writeData, writeAddress, written}
 use Rattle.manual.specs.Flags.{moveCodes, keptCodes}
 use Rattle.manual.specs.Address.{operand, extension, source, moved, locate}
 use Rattle.manual.specs.Change.{done, reading, put}
+use Rattle.manual.specs.Memory.{Memory}
 use Rattle.instructions.specs.Rows.{placeIn}
 
 -- the destination of a MOVE, with its extension words at pc and the registers after the source's move
-unfoldable pub moveTo : Size → List ℕ → ℕ → List ℕ → ℕ → Write → Operand → ℕ → Change
+unfoldable pub moveTo : Size → List ℕ → ℕ → Memory → ℕ → Write → Operand → ℕ → Change
 moveTo z g sr m pc one o v =
     put g (plus pc (extension o z)) (moveCodes z v sr) one (moved g o z) (locate g m pc o z) z v
 
 -- MOVE: bits 5 to 0 name the source, bits 8 to 6 the destination's mode and 11 to 9 its register. Dn's other bits stay
-unfoldable pub move : Size → List ℕ → ℕ → ℕ → List ℕ → ℕ → Change
+unfoldable pub move : Size → List ℕ → ℕ → ℕ → Memory → ℕ → Change
 move z g at sr m op =
     let from : Source = source g m (plus at 2) op z in
     let mode : ℕ = op / 64 % 8 in
@@ -35,7 +36,7 @@ move z g at sr m op =
     (moveTo z (written (from .moved) g) sr m (from .next) (from .moved) (operand mode (op / 512 % 8)) v)
 
 -- MOVEA: the whole register, sign-extended, and no condition codes
-unfoldable pub moveAddress : Size → List ℕ → ℕ → ℕ → List ℕ → ℕ → Change
+unfoldable pub moveAddress : Size → List ℕ → ℕ → ℕ → Memory → ℕ → Change
 moveAddress z g at sr m op =
     let from : Source = source g m (plus at 2) op z in
     reading (from .got) λ v.
@@ -43,11 +44,11 @@ moveAddress z g at sr m op =
 
 -- ---- the rows of the lines, from 14, 16 and 18 on
 
-unfoldable pub line1 : ℕ → List ℕ → ℕ → ℕ → List ℕ → ℕ → Change
+unfoldable pub line1 : ℕ → List ℕ → ℕ → ℕ → Memory → ℕ → Change
 line1 row g at sr m op = getD (moveAddress Byte g at sr m op ∷ []) (placeIn 14 row) (move Byte g at sr m op)
 
-unfoldable pub line2 : ℕ → List ℕ → ℕ → ℕ → List ℕ → ℕ → Change
+unfoldable pub line2 : ℕ → List ℕ → ℕ → ℕ → Memory → ℕ → Change
 line2 row g at sr m op = getD (moveAddress Long g at sr m op ∷ []) (placeIn 16 row) (move Long g at sr m op)
 
-unfoldable pub line3 : ℕ → List ℕ → ℕ → ℕ → List ℕ → ℕ → Change
+unfoldable pub line3 : ℕ → List ℕ → ℕ → ℕ → Memory → ℕ → Change
 line3 row g at sr m op = getD (moveAddress Word g at sr m op ∷ []) (placeIn 18 row) (move Word g at sr m op)

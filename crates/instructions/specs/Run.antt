@@ -1,39 +1,40 @@
--- A run: as many steps as the budget says, or up to one that is refused. Replies 1 and 2 come first at every budget.
+-- A run: as many steps as the budget says, or up to one that is refused. The first refusals come first at every budget.
 use Prim.Native.Nat.{ℕ, zero, suc, _+_}
 use mathlib.Core.Bool.{Bool, true, false, cond}
-use mathlib.Core.List.{List}
 use Rattle.manual.specs.declared.Cpu.{Cpu}
 use Rattle.manual.specs.declared.Ran.{Ran}
 use Rattle.manual.specs.declared.Reply.{Reply}
-use Rattle.manual.specs.declared.Reply.the-variants.{Done, TooLong, NotAdmitted}
+use Rattle.manual.specs.declared.Reply.the-variants.{Done}
+use Rattle.manual.specs.Memory.{Storage}
 use Rattle.manual.specs.Reply.{Outcome, isDone}
-use Rattle.manual.specs.Admitted.{admitted, tooLong}
+use Rattle.manual.specs.Lent.{Lent, lentOn, firstRefusal}
 use Rattle.instructions.specs.Step.{step}
 
--- a run's answer, and memory after it
+-- a run's answer, and storage after it
 pub record RunOutcome : Type 0 where
   pub ran : Ran
-  pub memory : List ℕ
+  pub storage : Storage
 
-abbrev pub runOutcome : Ran → List ℕ → RunOutcome
-runOutcome r m = record { ran = r; memory = m }
+abbrev pub runOutcome : Ran → Storage → RunOutcome
+runOutcome r b = record { ran = r; storage = b }
 
-abbrev pub ended : Reply → ℕ → Cpu → List ℕ → RunOutcome
-ended n count s m = runOutcome (record { reply = n; count = count; cpu = s }) m
+abbrev pub ended : Reply → ℕ → Cpu → Storage → RunOutcome
+ended n count s b = runOutcome (record { reply = n; count = count; cpu = s }) b
 
 -- one step more was done before the run r
 abbrev pub afterOne : RunOutcome → RunOutcome
-afterOne r = ended (r .ran .reply) (suc (r .ran .count)) (r .ran .cpu) (r .memory)
+afterOne r = ended (r .ran .reply) (suc (r .ran .count)) (r .ran .cpu) (r .storage)
 
 -- none are left; or one step, which is refused or followed by the rest
-unfoldable pub steps : ℕ → Cpu → List ℕ → RunOutcome
-steps zero s m = ended Done 0 s m
-steps (suc left) s m =
-    let o : Outcome = step s m in
+unfoldable pub steps : ℕ → Cpu → Lent → RunOutcome
+steps zero s l = ended Done 0 s (l .storage)
+steps (suc left) s l =
+    let o : Outcome = step s l in
     cond (isDone (o .stepped .reply))
-    (afterOne (steps left (o .stepped .cpu) (o .memory)))
-    (ended (o .stepped .reply) 0 (o .stepped .cpu) (o .memory))
+    (afterOne (steps left (o .stepped .cpu) (lentOn l (o .storage))))
+    (ended (o .stepped .reply) 0 (o .stepped .cpu) (o .storage))
 
-unfoldable pub run : ℕ → Cpu → List ℕ → RunOutcome
-run budget s m =
-    cond (tooLong m) (ended TooLong 0 s m) (cond (admitted s) (steps budget s m) (ended NotAdmitted 0 s m))
+unfoldable pub run : ℕ → Cpu → Lent → RunOutcome
+run budget s l =
+    let first : Reply = firstRefusal s l in
+    cond (isDone first) (steps budget s l) (ended first 0 s (l .storage))

@@ -8,9 +8,9 @@ use Rattle.manual.specs.declared.Emac.{Emac}
 use Rattle.manual.specs.declared.Size.the-variants.{Word}
 use Rattle.manual.specs.declared.Reply.the-variants.{Stopped}
 use Rattle.manual.specs.declared.Change.{Change}
-use Rattle.manual.specs.Memory.{load}
+use Rattle.manual.specs.Memory.{Memory, load}
 use Rattle.manual.specs.Reply.{Outcome, unchanged}
-use Rattle.manual.specs.Admitted.{checked}
+use Rattle.manual.specs.Lent.{Lent, memoryOf, checked}
 use Rattle.manual.specs.Change.{reading, notCarried}
 use Rattle.instructions.specs.Rows.{value, rowOf}
 use Rattle.instructions.specs.Line0.{line0}
@@ -28,7 +28,7 @@ use Rattle.instructions.specs.LineF.{lineF}
 use Rattle.instructions.specs.Perform.{perform}
 
 -- what the word op at `at` changes, taken for the instruction of a row of a line
-abbrev pub inLine : ℕ → ℕ → List ℕ → ℕ → ℕ → ℕ → Emac → List ℕ → ℕ → Change
+abbrev pub inLine : ℕ → ℕ → List ℕ → ℕ → ℕ → ℕ → Emac → Memory → ℕ → Change
 inLine line row g at sr other e m op =
     getD
     (line0 row g at sr m op ∷
@@ -50,18 +50,19 @@ inLine line row g at sr other e m op =
     line (lineF row g at sr m op)
 
 -- what it changes: its line is the top four bits, and its row says which instruction of the line it is
-unfoldable pub instruction : List ℕ → ℕ → ℕ → ℕ → Emac → List ℕ → ℕ → Change
+unfoldable pub instruction : List ℕ → ℕ → ℕ → ℕ → Emac → Memory → ℕ → Change
 instruction g at sr other e m op = inLine (op / 0x1000 % 16) (rowOf op) g at sr other e m op
 
 -- the instruction of a row, of the line that the row's value has
-unfoldable pub ofRow : ℕ → List ℕ → ℕ → ℕ → ℕ → Emac → List ℕ → ℕ → Change
+unfoldable pub ofRow : ℕ → List ℕ → ℕ → ℕ → ℕ → Emac → Memory → ℕ → Change
 ofRow row g at sr other e m op = inLine (value row / 0x1000) row g at sr other e m op
 
-unfoldable pub execute : List ℕ → ℕ → ℕ → ℕ → Emac → List ℕ → Change
+unfoldable pub execute : List ℕ → ℕ → ℕ → ℕ → Emac → Memory → Change
 execute g at sr other e m = reading (load m at Word) λ op. instruction g at sr other e m op
 
-unfoldable pub step : Cpu → List ℕ → Outcome
-step s m =
-    checked s m
+unfoldable pub step : Cpu → Lent → Outcome
+step s l =
+    let m : Memory = memoryOf l in
+    checked s l
     (cond (s .stopped) (unchanged s Stopped m)
     (perform s (execute (s .r) (s .pc) (s .sr) (s .other) (s .emac) m) m))

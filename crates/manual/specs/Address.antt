@@ -16,7 +16,7 @@ use Rattle.manual.specs.declared.Write.{Write}
 use Rattle.manual.specs.declared.Place.the-variants.{D, A, M, I, Fault}
 use Rattle.manual.specs.Word.{plus, minus, signExtended, bytes, cut}
 use Rattle.manual.specs.Registers.{dataOf, addressOf, general, noWrite, writeAddress}
-use Rattle.manual.specs.Memory.{load}
+use Rattle.manual.specs.Memory.{Memory, load}
 use Rattle.manual.specs.Differences.{wordIndex, indexScale, reservedOperand, partOfAddress}
 use Rattle.manual.specs.declared.Reached.{Reached}
 use Rattle.manual.specs.declared.Reached.the-variants.{At, NoAddress}
@@ -69,13 +69,13 @@ unfoldable pub indexed : List ℕ → ℕ → ℕ → ℕ
 indexed g base w = plus (plus base (signExtended Byte w)) (index g w)
 
 -- a byte's immediate is the low byte of a word
-unfoldable pub immediate : List ℕ → ℕ → Size → Place
+unfoldable pub immediate : Memory → ℕ → Size → Place
 immediate m pc Byte = load m pc Word then λ w. I (w % 0x100)
 immediate m pc Word = load m pc Word then λ w. I w
 immediate m pc Long = load m pc Long then λ w. I w
 
 -- the place of an operand of a size, its extension words being at pc
-unfoldable pub locate : List ℕ → List ℕ → ℕ → Operand → Size → Place
+unfoldable pub locate : List ℕ → Memory → ℕ → Operand → Size → Place
 locate g m pc (Data r) z = D r
 locate g m pc (Address r) z = A r
 locate g m pc (Indirect r) z = M (addressOf g r)
@@ -107,7 +107,7 @@ moved g Immediate z = noWrite
 moved g Zero z = noWrite
 
 -- what stands at a place
-unfoldable pub fetch : List ℕ → List ℕ → Place → Size → Got
+unfoldable pub fetch : List ℕ → Memory → Place → Size → Got
 fetch g m (D r) z = Value (cut z (dataOf g r))
 fetch g m (A r) z = Value (partOfAddress z g r)
 fetch g m (M a) z = load m a z
@@ -115,7 +115,7 @@ fetch g m (I v) z = Value (cut z v)
 fetch g m (Fault x) z = NoValue x
 
 -- the value of an operand
-unfoldable pub value : List ℕ → List ℕ → ℕ → Operand → Size → Got
+unfoldable pub value : List ℕ → Memory → ℕ → Operand → Size → Got
 value g m pc o z = fetch g m (locate g m pc o z) z
 
 -- the address of a place in memory
@@ -127,7 +127,7 @@ reached (I v) = NoAddress
 reached (Fault x) = At (NoValue x)
 
 -- the address of a control mode
-unfoldable pub control : List ℕ → List ℕ → ℕ → Operand → Reached
+unfoldable pub control : List ℕ → Memory → ℕ → Operand → Reached
 control g m pc (Data r) = NoAddress
 control g m pc (Address r) = NoAddress
 control g m pc (Indirect r) = reached (locate g m pc (Indirect r) Long)
@@ -143,7 +143,7 @@ control g m pc Immediate = NoAddress
 control g m pc Zero = NoAddress
 
 -- all that is read of the operand that a word's bits 5 to 0 name, its extension words being at pc
-unfoldable pub source : List ℕ → List ℕ → ℕ → ℕ → Size → Source
+unfoldable pub source : List ℕ → Memory → ℕ → ℕ → Size → Source
 source g m pc op z =
     let o : Operand = operand (op / 8 % 8) (op % 8) in
     record { got = value g m pc o z; next = plus pc (extension o z); moved = moved g o z }

@@ -3,14 +3,10 @@
 -- The manual: "Status Register (SR)" and "MAC Status Register (MACSR)".
 use Prim.Native.Nat.{ℕ, _+_, _*_, _/_, _%_, _^_}
 use mathlib.Core.Bool.{Bool, true, false, cond, _&&_}
-use mathlib.Core.List.{List}
 use lib.Dec.{eqb, ltb}
-use lib.ListN.{length}
 use Rattle.manual.specs.declared.Cpu.{Cpu}
 use Rattle.manual.specs.declared.Emac.{Emac}
-use Rattle.manual.specs.declared.Reply.the-variants.{TooLong, NotAdmitted}
 use Rattle.manual.specs.Emac.{accOf}
-use Rattle.manual.specs.Reply.{Outcome, unchanged}
 
 -- the status register's bits of a number, 0xB71F: 15, 13, 12, 10 to 8 and 4 to 0
 unfoldable pub status : ℕ → ℕ
@@ -25,11 +21,3 @@ emacAdmitted e =
 
 unfoldable pub admitted : Cpu → Bool
 admitted s = eqb (status (s .sr)) (s .sr) && emacAdmitted (s .emac)
-
--- memory is at most 16,777,216 bytes
-abbrev pub tooLong : List ℕ → Bool
-tooLong m = ltb 0x100_0000 (length m)
-
--- replies 1 and 2 come before all else
-abbrev pub checked : Cpu → List ℕ → Outcome → Outcome
-checked s m o = cond (tooLong m) (unchanged s TooLong m) (cond (admitted s) o (unchanged s NotAdmitted m))

@@ -2,22 +2,24 @@
 -- The manual: "Exception Processing Overview", "Exception Stack Frame Definition" and RTE.
 use Prim.Native.Nat.{ℕ, _+_, _-_, _*_, _/_, _%_}
 use mathlib.Core.Bool.{Bool, true, false, cond, not, _&&_, Bool·beq}
-use mathlib.Core.List.{List}
 use lib.Dec.{eqb, ltb, leb}
 use Rattle.manual.specs.declared.Cpu.{Cpu}
 use Rattle.manual.specs.declared.Size.the-variants.{Long}
+use Rattle.manual.specs.declared.Got.{Got}
+use Rattle.manual.specs.declared.Got.the-variants.{Value, Fault as NoValue}
 use Rattle.manual.specs.declared.Level.{Level}
 use Rattle.manual.specs.declared.Level.the-variants.{Kept, To}
 use Rattle.manual.specs.declared.Reply.{Reply}
-use Rattle.manual.specs.declared.Reply.the-variants.{Done, TooLong, NotAdmitted, NotInside, OutOfRange, Masked}
+use Rattle.manual.specs.declared.Reply.the-variants.{Done, NotAdmitted, OutOfRange, Masked}
 use Rattle.manual.specs.declared.Answer.{Answer}
 use Rattle.manual.specs.declared.Told.{Told}
 use Rattle.manual.specs.declared.Popped.{Popped}
 use Rattle.manual.specs.Word.{bit, plus, minus}
 use Rattle.manual.specs.Registers.{addressOf, withAddress, withPc, withSr, withOther, withStopped}
-use Rattle.manual.specs.Memory.{inside, numberAt, stored}
-use Rattle.manual.specs.Reply.{Outcome, completed, unchanged}
-use Rattle.manual.specs.Admitted.{status, admitted, tooLong, checked}
+use Rattle.manual.specs.Memory.{Storage, Memory, storageOf, valueAt, storeAt, access, load, storing, stored}
+use Rattle.manual.specs.Reply.{Outcome, completed, unchanged, faultReply, isDone, accessing, loading, taking}
+use Rattle.manual.specs.Admitted.{status, admitted}
+use Rattle.manual.specs.Lent.{Lent, memoryOf, firstRefusal, checked}
 use Rattle.manual.specs.Differences.{keptM, frameBytes, vectorPlace, givenLevel}
 
 -- ---- the status register
@@ -58,9 +60,9 @@ pcPlace sp = minus (sp / 4 * 4) 4
 abbrev pub framePlace : ℕ → ℕ
 framePlace sp = minus (pcPlace sp) 4
 
--- memory with the frame: the program counter first, then the long below it
-abbrev pub framed : List ℕ → ℕ → ℕ → ℕ → ℕ → List ℕ
-framed m sp vector sr pc = stored (stored m (pcPlace sp) Long pc) (framePlace sp) Long (frameLong sp vector sr)
+-- storage with the frame, its two longs at the places `high` and `low`: the program counter first, then the long below it
+abbrev pub framed : Storage → ℕ → ℕ → ℕ → ℕ → Storage
+framed b high low pc w = storeAt (storeAt b high 4 pc) low 4 w
 
 -- the registers in the handler: A7 is at the frame, and the core is not stopped
 unfoldable pub handlerState : Cpu → ℕ → ℕ → Cpu
@@ -68,32 +70,27 @@ handlerState t frame handler = withStopped false (withPc handler (withAddress 7 
 
 -- ---- entry, from the registers s; `given` are those of a refusal. The frame is stored and then the vector read, so that a
 -- frame over the vector's place is what is read. All three accesses are tested first
-unfoldable pub entered : Cpu → Cpu → Level → ℕ → ℕ → List ℕ → Outcome
+unfoldable pub entered : Cpu → Cpu → Level → ℕ → ℕ → Memory → Outcome
 entered given s level vector pc m =
     let t : Cpu = setSr (handling level (s .sr)) s in
     let sp : ℕ = addressOf (t .r) 7 in
-    let m′ : List ℕ = framed m sp vector (s .sr) pc in
-    cond (inside m (pcPlace sp) 4)
-    (cond (inside m (framePlace sp) 4)
-    (cond (inside m (vectorPlace (s .vbr) vector) 4)
-    (completed (handlerState t (framePlace sp) (numberAt m′ (vectorPlace (s .vbr) vector) Long)) vector m′)
-    (unchanged given NotInside m))
-    (unchanged given NotInside m))
-    (unchanged given NotInside m)
+    accessing given m (access m (pcPlace sp) 4) λ high.
+    accessing given m (access m (framePlace sp) 4) λ low.
+    accessing given m (access m (vectorPlace (s .vbr) vector) 4) λ table.
+    let b : Storage = framed (storageOf m) high low pc (frameLong sp vector (s .sr)) in
+    completed (handlerState t (framePlace sp) (valueAt b table 4)) vector b
 
 -- ---- return: A7 goes up past the frame and by what the format says, then the status register and the program counter are the frame's
 
 unfoldable pub returned : Cpu → ℕ → ℕ → ℕ → Cpu
 returned s sp w pc = withPc pc (setSr w (withAddress 7 (plus sp (frameBytes (w / 0x1000_0000))) s))
 
-unfoldable pub left : Cpu → Cpu → List ℕ → Outcome
+unfoldable pub left : Cpu → Cpu → Memory → Outcome
 left given s m =
     let sp : ℕ = addressOf (s .r) 7 in
-    cond (inside m sp 4)
-    (cond (inside m (plus sp 4) 4)
-    (completed (returned s sp (numberAt m sp Long) (numberAt m (plus sp 4) Long)) 0 m)
-    (unchanged given NotInside m))
-    (unchanged given NotInside m)
+    loading given m (load m sp Long) λ w.
+    loading given m (load m (plus sp 4) Long) λ pc.
+    completed (returned s sp w pc) 0 (storageOf m)
 
 -- ---- the calls
 
@@ -101,43 +98,46 @@ abbrev pub levelTaken : Level → Bool
 levelTaken Kept = true
 levelTaken (To level) = ltb level 8
 
-unfoldable pub exception : Cpu → List ℕ → ℕ → ℕ → Level → Outcome
-exception s m vector pc level =
-    checked s m (cond (levelTaken level) (entered s s level vector pc m) (unchanged s OutOfRange m))
+unfoldable pub exception : Cpu → Lent → ℕ → ℕ → Level → Outcome
+exception s l vector pc level =
+    let m : Memory = memoryOf l in
+    checked s l (cond (levelTaken level) (entered s s level vector pc m) (unchanged s OutOfRange m))
 
 -- level 7 is never masked; a lower one is at the mask or below it
 unfoldable pub masked : ℕ → ℕ → Bool
 masked sr level = ltb level 7 && leb level (maskOf sr)
 
-unfoldable pub interrupt : Cpu → List ℕ → ℕ → ℕ → Outcome
-interrupt s m vector level =
-    checked s m
+unfoldable pub interrupt : Cpu → Lent → ℕ → ℕ → Outcome
+interrupt s l vector level =
+    let m : Memory = memoryOf l in
+    checked s l
     (cond (ltb level 8)
     (cond (masked (s .sr) level) (unchanged s Masked m) (entered s s (To level) vector (s .pc) m))
     (unchanged s OutOfRange m))
 
-unfoldable pub rte : Cpu → List ℕ → Outcome
-rte s m = checked s m (left s s m)
+unfoldable pub rte : Cpu → Lent → Outcome
+rte s l = checked s l (left s s (memoryOf l))
 
 -- a push: A7 goes down by 4, and the long is stored there
-unfoldable pub push32 : Cpu → List ℕ → ℕ → Outcome
-push32 s m v =
+unfoldable pub push32 : Cpu → Lent → ℕ → Outcome
+push32 s l v =
+    let m : Memory = memoryOf l in
     let sp : ℕ = minus (addressOf (s .r) 7) 4 in
-    checked s m (cond (inside m sp 4) (completed (withAddress 7 sp s) 0 (stored m sp Long v)) (unchanged s NotInside m))
+    checked s l (taking s m (storing m sp Long) (completed (withAddress 7 sp s) 0 (stored m sp Long v)))
 
 abbrev pub notPopped : Cpu → Reply → Popped
 notPopped s n = record { reply = n; value = 0; cpu = s }
 
--- a pop: the long at A7, which goes up by 4
-unfoldable pub pop32 : Cpu → List ℕ → Popped
-pop32 s m =
+-- the long at A7, which goes up by 4
+abbrev pub popped : Cpu → ℕ → Got → Popped
+popped s sp (Value v) = record { reply = Done; value = v; cpu = withAddress 7 (plus sp 4) s }
+popped s sp (NoValue x) = notPopped s (faultReply x)
+
+unfoldable pub pop32 : Cpu → Lent → Popped
+pop32 s l =
     let sp : ℕ = addressOf (s .r) 7 in
-    cond (tooLong m) (notPopped s TooLong)
-    (cond (admitted s)
-    (cond (inside m sp 4)
-    (record { reply = Done; value = numberAt m sp Long; cpu = withAddress 7 (plus sp 4) s })
-    (notPopped s NotInside))
-    (notPopped s NotAdmitted))
+    let first : Reply = firstRefusal s l in
+    cond (isDone first) (popped s sp (load (memoryOf l) sp Long)) (notPopped s first)
 
 unfoldable pub setSrCall : Cpu → ℕ → Answer
 setSrCall s v =

@@ -13,6 +13,7 @@ pub mod Multiply
 pub mod Divide
 pub mod Emac
 pub mod Admitted
+pub mod Lent
 pub mod Exceptions
 pub mod EmacCalls
 pub mod Block

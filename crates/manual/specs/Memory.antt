@@ -1,5 +1,6 @@
--- Memory: a list of bytes from address 0, numbers in it big-endian, at any address.
+-- Memory: storage, a list of bytes that is lent, as addresses reach it. Numbers are big-endian, at any address.
 -- The manual: "Organization of Data in Memory". An access of n bytes at a is inside exactly when a + n is at most the length.
+-- Everything else asks for an access here, and knows neither where its bytes lie nor how long storage is.
 use Prim.Native.Nat.{ℕ, zero, suc, _+_, _*_, _/_, _%_}
 use mathlib.Core.Bool.{Bool, true, false, cond}
 use mathlib.Core.List.{List}
@@ -7,53 +8,115 @@ use lib.Dec.{leb, eqb}
 use lib.ListN.{length, getD, set}
 use Rattle.manual.specs.declared.Size.{Size}
 use Rattle.manual.specs.declared.Size.the-variants.{Byte, Word, Long}
+use Rattle.manual.specs.declared.Fault.{Fault as Faults}
+use Rattle.manual.specs.declared.Fault.the-variants.{Outside}
+use Rattle.manual.specs.declared.Access.{Access}
+use Rattle.manual.specs.declared.Access.the-variants.{Here, Not}
 use Rattle.manual.specs.declared.Got.{Got}
 use Rattle.manual.specs.declared.Got.the-variants.{Value, Fault}
-use Rattle.manual.specs.declared.Fault.the-variants.{Outside}
+use Rattle.manual.specs.declared.Stored.{Stored}
+use Rattle.manual.specs.declared.Stored.the-variants.{Done, Fault as NotStored}
 use Rattle.manual.specs.Word.{bytes, plus}
 use Rattle.manual.specs.Registers.{general, written}
 
-abbrev pub inside : List ℕ → ℕ → ℕ → Bool
-inside m a n = leb (a + n) (length m)
+-- the bytes that are lent, by place
+abbrev pub Storage : Type 0
+Storage = List ℕ
 
--- the n bytes from a as one number, highest first
-unfoldable pub valueAt : List ℕ → ℕ → ℕ → ℕ
-valueAt m a zero = 0
-valueAt m a (suc n) = valueAt m a n * 256 + getD m (a + n) 0
+-- storage as addresses reach it: address 0 is place 0
+abbrev pub Memory : Type 0
+Memory = Storage
 
--- memory with the n low bytes of v from a on
-unfoldable pub storeAt : List ℕ → ℕ → ℕ → ℕ → List ℕ
-storeAt m a zero v = m
-storeAt m a (suc n) v = storeAt (set m (a + n) (v % 256)) a n (v / 256)
+abbrev pub mapped : Storage → Memory
+mapped s = s
 
--- the same by the size
-abbrev pub numberAt : List ℕ → ℕ → Size → ℕ
-numberAt m a z = valueAt m a (bytes z)
+abbrev pub storageOf : Memory → Storage
+storageOf m = m
 
-abbrev pub stored : List ℕ → ℕ → Size → ℕ → List ℕ
-stored m a z v = storeAt m a (bytes z) v
+-- memory with other bytes
+abbrev pub onStorage : Memory → Storage → Memory
+onStorage m s = s
 
--- the number of a size at an address, if it is inside
-unfoldable pub load : List ℕ → ℕ → Size → Got
-load m a z = cond (inside m a (bytes z)) (Value (numberAt m a z)) (Fault Outside)
+-- ---- numbers in storage
+
+-- the n bytes from a place as one number, highest first
+unfoldable pub valueAt : Storage → ℕ → ℕ → ℕ
+valueAt s at zero = 0
+valueAt s at (suc n) = valueAt s at n * 256 + getD s (at + n) 0
+
+-- storage with the n low bytes of v from a place on
+unfoldable pub storeAt : Storage → ℕ → ℕ → ℕ → Storage
+storeAt s at zero v = s
+storeAt s at (suc n) v = storeAt (set s (at + n) (v % 256)) at n (v / 256)
+
+-- ---- an access of n bytes at an address: where they lie, or what is wrong
+
+abbrev pub inside : Memory → ℕ → ℕ → Bool
+inside m a n = leb (a + n) (length (storageOf m))
+
+unfoldable pub access : Memory → ℕ → ℕ → Access
+access m a n = cond (inside m a n) (Here a) (Not Outside)
+
+-- ---- a number that is read
+
+abbrev pub found : Storage → Size → Access → Got
+found s z (Here at) = Value (valueAt s at (bytes z))
+found s z (Not x) = Fault x
+
+unfoldable pub load : Memory → ℕ → Size → Got
+load m a z = found (storageOf m) z (access m a (bytes z))
+
+-- the number that was read, or 0
+abbrev pub numberIn : Got → ℕ
+numberIn (Value v) = v
+numberIn (Fault x) = 0
+
+abbrev pub numberAt : Memory → ℕ → Size → ℕ
+numberAt m a z = numberIn (load m a z)
+
+-- ---- a number that is stored: what the store answers, and storage after it
+
+abbrev pub taken : Access → Stored
+taken (Here at) = Done
+taken (Not x) = NotStored x
+
+abbrev pub storedIn : Storage → Size → ℕ → Access → Storage
+storedIn s z v (Here at) = storeAt s at (bytes z) v
+storedIn s z v (Not x) = s
+
+unfoldable pub storing : Memory → ℕ → Size → Stored
+storing m a z = taken (access m a (bytes z))
+
+unfoldable pub stored : Memory → ℕ → Size → ℕ → Storage
+stored m a z v = storedIn (storageOf m) z v (access m a (bytes z))
+
+-- one thing where memory took it all, else another
+abbrev pub ifTaken : Stored → List ℕ → List ℕ → List ℕ
+ifTaken Done x y = x
+ifTaken (NotStored f) x y = y
 
 -- ---- the registers of a mask, D0 lowest, as longs one after the other: `left` of them are still to come, from number n on
 
-unfoldable pub manyInside : ℕ → List ℕ → ℕ → ℕ → Bool
-manyInside zero m mask at = true
-manyInside (suc left) m mask at =
-    cond (eqb (mask % 2) 1)
-    (cond (inside m at 4) (manyInside left m (mask / 2) (plus at 4)) false)
-    (manyInside left m (mask / 2) at)
+-- one access and those after it: the first fault, if any
+abbrev pub firstFault : Access → Stored → Stored
+firstFault (Here at) rest = rest
+firstFault (Not x) rest = NotStored x
 
-unfoldable pub storedMany : ℕ → List ℕ → ℕ → ℕ → ℕ → List ℕ → List ℕ
-storedMany zero g n mask at m = m
+unfoldable pub accessMany : ℕ → Memory → ℕ → ℕ → Stored
+accessMany zero m mask at = Done
+accessMany (suc left) m mask at =
+    cond (eqb (mask % 2) 1)
+    (firstFault (access m at 4) (accessMany left m (mask / 2) (plus at 4)))
+    (accessMany left m (mask / 2) at)
+
+unfoldable pub storedMany : ℕ → List ℕ → ℕ → ℕ → ℕ → Memory → Storage
+storedMany zero g n mask at m = storageOf m
 storedMany (suc left) g n mask at m =
     cond (eqb (mask % 2) 1)
-    (storedMany left g (n + 1) (mask / 2) (plus at 4) (stored m at Long (general g n)))
+    (storedMany left g (n + 1) (mask / 2) (plus at 4) (onStorage m (stored m at Long (general g n))))
     (storedMany left g (n + 1) (mask / 2) at m)
 
-unfoldable pub loadedMany : ℕ → List ℕ → ℕ → ℕ → ℕ → List ℕ → List ℕ
+unfoldable pub loadedMany : ℕ → Memory → ℕ → ℕ → ℕ → List ℕ → List ℕ
 loadedMany zero m n mask at g = g
 loadedMany (suc left) m n mask at g =
     cond (eqb (mask % 2) 1)

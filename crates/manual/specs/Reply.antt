@@ -1,15 +1,22 @@
 -- The answers: what number each reply has, and what a call hands back with memory. Document: "Numbered replies".
 use Prim.Native.Nat.{ℕ}
-use mathlib.Core.Bool.{Bool, true, false}
-use mathlib.Core.List.{List}
+use mathlib.Core.Bool.{Bool}
+use lib.Dec.{eqb}
 use Rattle.manual.specs.declared.Fault.{Fault}
 use Rattle.manual.specs.declared.Fault.the-variants.{Outside}
+use Rattle.manual.specs.declared.Access.{Access}
+use Rattle.manual.specs.declared.Access.the-variants.{Here, Not}
+use Rattle.manual.specs.declared.Got.{Got}
+use Rattle.manual.specs.declared.Got.the-variants.{Value, Fault as NoValue}
+use Rattle.manual.specs.declared.Stored.{Stored}
+use Rattle.manual.specs.declared.Stored.the-variants.{Done as Taken, Fault as NotTaken}
 use Rattle.manual.specs.declared.Cpu.{Cpu}
 use Rattle.manual.specs.declared.Reply.{Reply}
 use Rattle.manual.specs.declared.Reply.the-variants.{Done, TooLong, NotAdmitted, Stopped, NotInside, NotCarried, OutOfRange, Masked, WrongVersion, WrongLength}
 use Rattle.manual.specs.declared.Stepped.{Stepped}
+use Rattle.manual.specs.Memory.{Storage, Memory, storageOf}
 
-unfoldable pub numberOf : Reply → ℕ
+abbrev pub numberOf : Reply → ℕ
 numberOf Done = 0
 numberOf TooLong = 1
 numberOf NotAdmitted = 2
@@ -23,36 +30,44 @@ numberOf WrongLength = 9
 
 -- whether a call was done
 abbrev pub isDone : Reply → Bool
-isDone Done = true
-isDone TooLong = false
-isDone NotAdmitted = false
-isDone Stopped = false
-isDone NotInside = false
-isDone NotCarried = false
-isDone OutOfRange = false
-isDone Masked = false
-isDone WrongVersion = false
-isDone WrongLength = false
+isDone n = eqb (numberOf n) 0
 
 -- the reply to an access that memory does not take
 abbrev pub faultReply : Fault → Reply
 faultReply Outside = NotInside
 
--- a step's answer, and memory after it
+-- a step's answer, and storage after it
 pub record Outcome : Type 0 where
   pub stepped : Stepped
-  pub memory : List ℕ
+  pub storage : Storage
 
-abbrev pub outcome : Stepped → List ℕ → Outcome
-outcome r m = record { stepped = r; memory = m }
+abbrev pub outcome : Stepped → Storage → Outcome
+outcome r s = record { stepped = r; storage = s }
 
--- done: the vector that was entered or 0, the new state and memory
-abbrev pub completed : Cpu → ℕ → List ℕ → Outcome
-completed s vector m = record { stepped = record { reply = Done; vector = vector; cpu = s }; memory = m }
+-- done: the vector that was entered or 0, the new state and storage
+abbrev pub completed : Cpu → ℕ → Storage → Outcome
+completed s vector b = record { stepped = record { reply = Done; vector = vector; cpu = s }; storage = b }
 
--- refused: the state and memory as given, and no vector
+-- refused: the state and storage as given, and no vector
 unfoldable pub refusal : Cpu → Reply → Stepped
 refusal given n = record { reply = n; vector = 0; cpu = given }
 
-abbrev pub unchanged : Cpu → Reply → List ℕ → Outcome
-unchanged given n m = record { stepped = refusal given n; memory = m }
+abbrev pub unchanged : Cpu → Reply → Memory → Outcome
+unchanged given n m = record { stepped = refusal given n; storage = storageOf m }
+
+-- ---- going on, or a refusal with the fault's reply
+
+-- at the place where an access lies
+abbrev pub accessing : Cpu → Memory → Access → (ℕ → Outcome) → Outcome
+accessing given m (Here at) f = f at
+accessing given m (Not x) f = unchanged given (faultReply x) m
+
+-- with the number that was read
+abbrev pub loading : Cpu → Memory → Got → (ℕ → Outcome) → Outcome
+loading given m (Value v) f = f v
+loading given m (NoValue x) f = unchanged given (faultReply x) m
+
+-- where memory took what was to be stored
+abbrev pub taking : Cpu → Memory → Stored → Outcome → Outcome
+taking given m Taken o = o
+taking given m (NotTaken x) o = unchanged given (faultReply x) m

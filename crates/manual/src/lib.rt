@@ -31,6 +31,18 @@ pub enum Fault {
     Outside,
 }
 
+// What an access finds: the place of storage where its bytes lie, or that it is not to be had.
+pub enum Access {
+    Here(u32),
+    Not(Fault),
+}
+
+// What a store answers, or MOVEM's loads: all of it was done, or nothing.
+pub enum Stored {
+    Done,
+    Fault(Fault),
+}
+
 // What a read of memory finds.
 pub enum Got {
     Value(u32),

@@ -5,13 +5,17 @@ use mathlib.Core.Path.{_≡_, refl, sym, _∙_}
 use mathlib.Core.Bool.{Bool, true, false, cond}
 use mathlib.Core.List.{List}
 use native.Mathlib.Omega.{arith}
-use borrow.Author.Tests.{le-leb, lt-leb, leb-true, eq-eqb, ne-eqb}
-use lib.Dec.{leb}
-use lib.ListN.{length, getD, set}
+use borrow.Author.Tests.{eq-eqb, ne-eqb}
+use lib.ListN.{getD, set}
 use Rattle.manual.specs.declared.Size.the-variants.{Long}
+use Rattle.manual.specs.declared.Fault.{Fault as Faults}
+use Rattle.manual.specs.declared.Access.{Access}
+use Rattle.manual.specs.declared.Access.the-variants.{Here, Not}
+use Rattle.manual.specs.declared.Stored.{Stored}
+use Rattle.manual.specs.declared.Stored.the-variants.{Done, Fault}
 use Rattle.manual.specs.Word.{plus}
 use Rattle.manual.specs.Registers.{general}
-use Rattle.manual.specs.Memory.{inside, valueAt, stored, manyInside, storedMany, loadedMany}
+use Rattle.manual.specs.Memory.{Storage, Memory, access, numberAt, stored, accessMany, storedMany, loadedMany}
 
 pub general-below : (g : List ℕ) (n : ℕ) → n < 16 → general g n ≡ getD g n 0
 unfolding general
@@ -20,26 +24,19 @@ general-below g n h = let e : n % 16 ≡ n = omega arith in rw e
 to-come : (n : ℕ) → n < 16 → 16 - n ≡ suc (16 - (n + 1))
 to-come n h = omega arith
 
-module _ (n : ℕ) (h : n < 16) (m : List ℕ) (mask at : ℕ) where
-  pub inside-on : mask % 2 ≡ 1 → at + 4 ≤ length m → manyInside (16 - n) m mask at ≡ manyInside (16 - (n + 1)) m (mask / 2) (plus at 4)
-  unfolding manyInside
-  inside-on t i = rw (to-come n h, eq-eqb _ _ t, le-leb _ _ i)
+module _ (n : ℕ) (h : n < 16) (m : Memory) (mask at : ℕ) where
+  pub access-on : (x : Access) (p at′ : ℕ) (w : Stored) → mask % 2 ≡ 1 → x ≡ access m at 4 → x ≡ Here p → at′ ≡ plus at 4
+      → accessMany (16 - n) m mask at ≡ w → accessMany (16 - (n + 1)) m (mask / 2) at′ ≡ w
+  unfolding accessMany
+  access-on x p at′ w t is i a e = rw a (rw (to-come n h, eq-eqb _ _ t, ← is, i) at e)
 
-  pub inside-not : mask % 2 ≡ 1 → length m < at + 4 → manyInside (16 - n) m mask at ≡ false
-  unfolding manyInside
-  inside-not t o = rw (to-come n h, eq-eqb _ _ t, lt-leb _ _ o)
+  pub access-not : (x : Access) (f : Faults) (w : Stored) → mask % 2 ≡ 1 → x ≡ access m at 4 → x ≡ Not f → accessMany (16 - n) m mask at ≡ w → Fault f ≡ w
+  unfolding accessMany
+  access-not x f w t is i e = rw (to-come n h, eq-eqb _ _ t, ← is, i) at e
 
-  pub inside-past : (mask % 2 ≡ 1 → ⊥) → manyInside (16 - n) m mask at ≡ manyInside (16 - (n + 1)) m (mask / 2) at
-  unfolding manyInside
-  inside-past t = rw (to-come n h, ne-eqb _ _ t)
-
-  pub inside-this : mask % 2 ≡ 1 → manyInside (16 - n) m mask at ≡ true → at + 4 ≤ length m
-  unfolding manyInside
-  inside-this t all = leb-true _ _ (first (inside m at 4) _ (rw (to-come n h, eq-eqb _ _ t) at all))
-    where
-      first : (b c : Bool) → cond b c false ≡ true → b ≡ true
-      first true c e = refl
-      first false c e = e
+  pub access-past : (w : Stored) → (mask % 2 ≡ 1 → ⊥) → accessMany (16 - n) m mask at ≡ w → accessMany (16 - (n + 1)) m (mask / 2) at ≡ w
+  unfolding accessMany
+  access-past w t e = rw (to-come n h, ne-eqb _ _ t) at e
 
   pub stored-on : (g m′ w : List ℕ) (at′ : ℕ) → mask % 2 ≡ 1 → at′ ≡ plus at 4 → m′ ≡ stored m at Long (getD g n 0)
       → storedMany (16 - n) g n mask at m ≡ w → storedMany (16 - (n + 1)) g (n + 1) (mask / 2) at′ m′ ≡ w
@@ -50,7 +47,7 @@ module _ (n : ℕ) (h : n < 16) (m : List ℕ) (mask at : ℕ) where
   unfolding storedMany
   stored-past g t = rw (to-come n h, ne-eqb _ _ t)
 
-  pub loaded-on : (g w : List ℕ) (at′ v : ℕ) → mask % 2 ≡ 1 → at′ ≡ plus at 4 → v ≡ valueAt m at 4
+  pub loaded-on : (g w : List ℕ) (at′ v : ℕ) → mask % 2 ≡ 1 → at′ ≡ plus at 4 → v ≡ numberAt m at Long
       → loadedMany (16 - n) m n mask at g ≡ w → loadedMany (16 - (n + 1)) m (n + 1) (mask / 2) at′ (set g n v) ≡ w
   unfolding loadedMany
   loaded-on g w at′ v t a s e = rw (a, s) (rw (to-come n h, eq-eqb _ _ t) at e)
@@ -60,10 +57,10 @@ module _ (n : ℕ) (h : n < 16) (m : List ℕ) (mask at : ℕ) where
   loaded-past g t = rw (to-come n h, ne-eqb _ _ t)
 
 -- and after the last
-module _ (n : ℕ) (h : 16 ≤ n) (m : List ℕ) (mask at : ℕ) where
-  pub inside-none : manyInside (16 - n) m mask at ≡ true
-  unfolding manyInside
-  inside-none = let e : 16 - n ≡ 0 = omega arith in rw e
+module _ (n : ℕ) (h : 16 ≤ n) (m : Memory) (mask at : ℕ) where
+  pub access-none : accessMany (16 - n) m mask at ≡ Done
+  unfolding accessMany
+  access-none = let e : 16 - n ≡ 0 = omega arith in rw e
 
   pub stored-none : (g : List ℕ) → storedMany (16 - n) g n mask at m ≡ m
   unfolding storedMany

@@ -1,4 +1,4 @@
--- The laws of storing and reading back, each once over the size, and of the registers of a mask.
+-- The laws of storing and reading back, each once over the size, of an access, and of the registers of a mask.
 -- Assumes nothing.
 use Prim.Native.Nat.{ℕ, zero, suc, _+_, _*_, _/_, _%_, _-_, _^_, _≤_, _<_}
 use mathlib.Core.Path.{_≡_, refl, sym, ap, _∙_}
@@ -8,24 +8,28 @@ use mathlib.Core.Logic.{_⊎_, ⊎-elim, inl, inr}
 use native.Mathlib.Omega.{arith}
 use native.Mathlib.Numerals.{sub-one}
 use native.Mathlib.Nat.{pow-succ', add-zero, add-assoc, div-div-eq-div-mul}
-use borrow.Author.Tests.{le-leb, lt-leb, eq-eqb, ne-eqb}
+use borrow.Author.Tests.{le-leb, lt-leb, leb-true}
 use lib.Dec.{leb, eqb}
 use lib.ListN.{length, getD, set, length-set}
 use lib.Seq.{getD-set-same, getD-set-other}
+use Rattle.manual.specs.declared.Size.{Size}
 use Rattle.manual.specs.declared.Size.the-variants.{Long}
-use Rattle.manual.specs.Word.{plus}
+use Rattle.manual.specs.declared.Fault.the-variants.{Outside}
+use Rattle.manual.specs.declared.Access.{Access}
+use Rattle.manual.specs.declared.Access.the-variants.{Here, Not}
+use Rattle.manual.specs.Word.{bytes, plus}
 use Rattle.manual.specs.Registers.{general}
-use Rattle.manual.specs.Memory.{inside, valueAt, storeAt, stored, numberAt, manyInside, storedMany, loadedMany}
+use Rattle.manual.specs.Memory.{Storage, Memory, inside, valueAt, storeAt, access, storedIn, stored, numberAt, accessMany, storedMany, loadedMany}
 
 -- ---- one number
 
-pub length-store : (m : List ℕ) (a n v : ℕ) → length (storeAt m a n v) ≡ length m
+pub length-store : (m : Storage) (a n v : ℕ) → length (storeAt m a n v) ≡ length m
 unfolding storeAt
 length-store m a zero v = refl
 length-store m a (suc n) v = length-store (set m (a + n) (v % 256)) a n (v / 256) ∙ simp length-set
 
 -- a byte outside of what is stored is as it was
-pub byte-store : (m : List ℕ) (a n v j : ℕ) → (j < a) ⊎ (a + n ≤ j) → getD (storeAt m a n v) j 0 ≡ getD m j 0
+pub byte-store : (m : Storage) (a n v j : ℕ) → (j < a) ⊎ (a + n ≤ j) → getD (storeAt m a n v) j 0 ≡ getD m j 0
 unfolding storeAt
 byte-store m a zero v j out = refl
 byte-store m a (suc n) v j out =
@@ -33,7 +37,7 @@ byte-store m a (suc n) v j out =
     ∙ getD-set-other m (a + n) j (v % 256) 0 (λ e. ⊎-elim (λ p. omega arith) (λ p. omega arith) out)
 
 -- what is read goes by the bytes read alone
-pub value-same : (m m′ : List ℕ) (a n : ℕ) → ((j : ℕ) → j < n → getD m (a + j) 0 ≡ getD m′ (a + j) 0) → valueAt m a n ≡ valueAt m′ a n
+pub value-same : (m m′ : Storage) (a n : ℕ) → ((j : ℕ) → j < n → getD m (a + j) 0 ≡ getD m′ (a + j) 0) → valueAt m a n ≡ valueAt m′ a n
 unfolding valueAt
 value-same m m′ a zero same = refl
 value-same m m′ a (suc n) same =
@@ -42,13 +46,13 @@ value-same m m′ a (suc n) same =
     cc
 
 -- what is read where nothing was stored is as it was
-pub read-other : (m : List ℕ) (a n v b k : ℕ) → (b + k ≤ a) ⊎ (a + n ≤ b) → valueAt (storeAt m a n v) b k ≡ valueAt m b k
+pub read-other : (m : Storage) (a n v b k : ℕ) → (b + k ≤ a) ⊎ (a + n ≤ b) → valueAt (storeAt m a n v) b k ≡ valueAt m b k
 read-other m a n v b k apart =
     value-same (storeAt m a n v) m b k
     (λ j p. byte-store m a n v (b + j) (⊎-elim (λ q. inl (omega arith)) (λ q. inr (omega arith)) apart))
 
 -- what was stored is read back
-pub read-same : (m : List ℕ) (a n v : ℕ) → a + n ≤ length m → v < 256 ^ n → valueAt (storeAt m a n v) a n ≡ v
+pub read-same : (m : Storage) (a n v : ℕ) → a + n ≤ length m → v < 256 ^ n → valueAt (storeAt m a n v) a n ≡ v
 unfolding valueAt storeAt
 read-same m a zero v inside small = omega arith
 read-same m a (suc n) v inside small =
@@ -62,70 +66,107 @@ read-same m a (suc n) v inside small =
     omega (arith, top, low)
 
 -- n bytes are a number below 256 ^ n
-pub value-lt : (m : List ℕ) (a n : ℕ) → ((j : ℕ) → getD m j 0 < 256) → valueAt m a n < 256 ^ n
+pub value-lt : (m : Storage) (a n : ℕ) → ((j : ℕ) → getD m j 0 < 256) → valueAt m a n < 256 ^ n
 unfolding valueAt
 value-lt m a zero bytes = omega arith
 value-lt m a (suc n) bytes = omega (arith, value-lt m a n bytes, bytes (a + n), pow-succ' 256 n)
 
 -- one byte of a store, in a loop's k and k - 1
-pub store-step : (m : List ℕ) (a k v : ℕ) → 0 < k → storeAt m a k v ≡ storeAt (set m (a + (k - 1)) (v % 256)) a (k - 1) (v / 256)
+pub store-step : (m : Storage) (a k v : ℕ) → 0 < k → storeAt m a k v ≡ storeAt (set m (a + (k - 1)) (v % 256)) a (k - 1) (v / 256)
 unfolding storeAt
 store-step m a zero v h = absurd (omega arith)
 store-step m a (suc n) v h = rw sub-one
 
 -- ---- the sizes
 
-pub value-one : (m : List ℕ) (a : ℕ) → valueAt m a 1 ≡ getD m a 0
+pub value-one : (m : Storage) (a : ℕ) → valueAt m a 1 ≡ getD m a 0
 unfolding valueAt
 value-one m a = rw add-zero (omega arith)
 
-pub value-two : (m : List ℕ) (a : ℕ) → valueAt m a 2 ≡ getD m a 0 * 256 + getD m (a + 1) 0
+pub value-two : (m : Storage) (a : ℕ) → valueAt m a 2 ≡ getD m a 0 * 256 + getD m (a + 1) 0
 unfolding valueAt
 value-two m a = rw add-zero (omega arith)
 
-pub value-four : (m : List ℕ) (a : ℕ) → valueAt m a 4 ≡ valueAt m a 2 * 0x1_0000 + valueAt m (a + 2) 2
+pub value-four : (m : Storage) (a : ℕ) → valueAt m a 4 ≡ valueAt m a 2 * 0x1_0000 + valueAt m (a + 2) 2
 unfolding valueAt
 value-four m a = simp (add-zero, add-assoc) (omega arith)
 
-pub value-bytes : (m : List ℕ) (a : ℕ)
+pub value-bytes : (m : Storage) (a : ℕ)
     → valueAt m a 4 ≡ getD m (a + 0) 0 * 0x100_0000 + getD m (a + 1) 0 * 0x1_0000 + getD m (a + 2) 0 * 0x100 + getD m (a + 3) 0
 unfolding valueAt
 value-bytes m a = omega arith
 
-pub store-one : (m : List ℕ) (a v : ℕ) → storeAt m a 1 v ≡ set m a (v % 256)
+pub store-one : (m : Storage) (a v : ℕ) → storeAt m a 1 v ≡ set m a (v % 256)
 unfolding storeAt
 store-one m a v = rw add-zero
 
-pub store-two : (m : List ℕ) (a v : ℕ) → storeAt m a 2 v ≡ set (set m (a + 1) (v % 256)) a (v / 256 % 256)
+pub store-two : (m : Storage) (a v : ℕ) → storeAt m a 2 v ≡ set (set m (a + 1) (v % 256)) a (v / 256 % 256)
 unfolding storeAt
 store-two m a v = rw add-zero
 
-pub store-four : (m : List ℕ) (a v : ℕ) → storeAt m a 4 v ≡ storeAt (storeAt m (a + 2) 2 v) a 2 (v / 0x1_0000)
+-- a long byte by byte, the lowest first
+pub store-bytes : (m : Storage) (a v : ℕ)
+    → storeAt m a 4 v ≡ set (set (set (set m (a + 3) (v % 256)) (a + 2) (v / 256 % 256)) (a + 1) (v / 0x1_0000 % 256)) a (v / 0x100_0000 % 256)
+unfolding storeAt
+store-bytes m a v = simp (add-zero, div-div-eq-div-mul)
+
+pub store-four : (m : Storage) (a v : ℕ) → storeAt m a 4 v ≡ storeAt (storeAt m (a + 2) 2 v) a 2 (v / 0x1_0000)
 unfolding storeAt
 store-four m a v = simp (add-zero, add-assoc, div-div-eq-div-mul)
+
+-- ---- an access, which goes by the length of storage alone
+
+pub is-here : (m : Memory) (a n : ℕ) → a + n ≤ length m → access m a n ≡ Here a
+unfolding access
+is-here m a n i = rw (le-leb _ _ i)
+
+pub is-not : (m : Memory) (a n : ℕ) → length m < a + n → access m a n ≡ Not Outside
+unfolding access
+is-not m a n o = rw (lt-leb _ _ o)
+
+-- where it lies, its bytes are inside
+pub here-inside : (m : Memory) (a n p : ℕ) (x : Access) → x ≡ Here p → x ≡ access m a n → p + n ≤ length m
+unfolding access
+here-inside m a n p x h is = by (inside m a n) (λ e. e) (sym h ∙ is)
+  where
+    by : (b : Bool) → (b ≡ true → inside m a n ≡ true) → Here p ≡ cond b (Here a) (Not Outside) → p + n ≤ length m
+    by true t e = let q : p ≡ a = cc in rw q (leb-true _ _ (t refl))
+    by false t e = let z : _≡_ {A = ℕ} 0 1 = cc in absurd (omega arith)
+
+pub access-same : (m m′ : Storage) (a n : ℕ) → length m ≡ length m′ → access m a n ≡ access m′ a n
+unfolding access
+access-same m m′ a n e = rw e
+
+pub length-stored : (m : Memory) (a : ℕ) (z : Size) (v : ℕ) → length (stored m a z v) ≡ length m
+unfolding stored
+length-stored m a z v = by (access m a (bytes z))
+  where
+    by : (x : Access) → length (storedIn m z v x) ≡ length m
+    by (Here at) = length-store m at (bytes z) v
+    by (Not x) = refl
 
 -- ---- the registers of a mask
 
 -- whether they are inside goes by the length alone
-pub many-same : (left : ℕ) (m m′ : List ℕ) (mask at : ℕ) → length m ≡ length m′ → manyInside left m mask at ≡ manyInside left m′ mask at
-unfolding manyInside
+pub many-same : (left : ℕ) (m m′ : Storage) (mask at : ℕ) → length m ≡ length m′ → accessMany left m mask at ≡ accessMany left m′ mask at
+unfolding accessMany
 many-same zero m m′ mask at e = refl
 many-same (suc left) m m′ mask at e =
-    rw (many-same left m m′ (mask / 2) (plus at 4) e, many-same left m m′ (mask / 2) at e, e)
+    rw (many-same left m m′ (mask / 2) (plus at 4) e, many-same left m m′ (mask / 2) at e, access-same m m′ at 4 e)
 
 either-length : (b : Bool) (x y : List ℕ) (k : ℕ) → length x ≡ k → length y ≡ k → length (cond b x y) ≡ k
 either-length true x y k p q = p
 either-length false x y k p q = q
 
-pub length-stored-many : (left : ℕ) (g : List ℕ) (n mask at : ℕ) (m : List ℕ) → length (storedMany left g n mask at m) ≡ length m
+pub length-stored-many : (left : ℕ) (g : List ℕ) (n mask at : ℕ) (m : Memory) → length (storedMany left g n mask at m) ≡ length m
 unfolding storedMany
 length-stored-many zero g n mask at m = refl
 length-stored-many (suc left) g n mask at m =
     either-length (eqb (mask % 2) 1) _ _ (length m)
-    (length-stored-many left g (n + 1) (mask / 2) (plus at 4) (stored m at Long (general g n)) ∙ length-store m at 4 (general g n))
+    (length-stored-many left g (n + 1) (mask / 2) (plus at 4) (stored m at Long (general g n)) ∙ length-stored m at Long (general g n))
     (length-stored-many left g (n + 1) (mask / 2) at m)
 
-pub length-loaded-many : (left : ℕ) (m : List ℕ) (n mask at : ℕ) (g : List ℕ) → length (loadedMany left m n mask at g) ≡ length g
+pub length-loaded-many : (left : ℕ) (m : Memory) (n mask at : ℕ) (g : List ℕ) → length (loadedMany left m n mask at g) ≡ length g
 unfolding loadedMany
 length-loaded-many zero m n mask at g = refl
 length-loaded-many (suc left) m n mask at g =

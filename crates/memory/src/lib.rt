@@ -1,15 +1,15 @@
 // Numbers in a lent memory, big-endian, at any address.
 pub mod many;
 
+use manual::Access;
 use manual::Fault;
 use manual::Got;
 use manual::Size;
+use manual::Stored;
 ghost use mathlib.Core.Path.{_≡_};
-ghost use mathlib.Core.Bool.{cond};
 ghost use Prim.Native.Nat.{_+_, _*_, _/_, _%_, _^_, _≤_, _<_};
-ghost use lib.ListN.{length, getD};
-ghost use Rattle.manual.specs.Word.{bytes as bytesOf};
-ghost use Rattle.manual.specs.Memory.{inside, valueAt, storeAt, stored, load as loadOf};
+ghost use lib.ListN.{length, getD, set};
+ghost use Rattle.manual.specs.Memory.{mapped, valueAt, storeAt, access as accessOf, load as loadOf, storing, stored};
 
 fn byte_at(mem: &[u8], at: usize) -> u32
     requires { ⌜ at < length (now mem) ⌝ }
@@ -25,7 +25,7 @@ fn word_at(mem: &[u8], at: usize) -> u32
     byte_at(mem, at) * 0x100 + byte_at(mem, at + 1)
 }
 
-pub(crate) fn inside_long(mem: &[u8], at: usize) -> u32
+fn inside_long(mem: &[u8], at: usize) -> u32
     requires { ⌜ at + 4 ≤ length (now mem) ⌝ }
     ensures { λ r. ⌜ r ≡ valueAt (now (mem .entry)) at 4 ⌝ }
 {
@@ -53,28 +53,35 @@ pub fn long_at(mem: &[u8], at: usize) -> u32
         + byte_or_zero(mem, at, 3)
 }
 
-pub fn load(mem: &[u8], a: u32, z: Size) -> Got
-    ensures { λ r. ⌜ r ≡ loadOf (now (mem .entry)) a z ⌝ }
+// Where the n bytes at an address lie, or why they are not to be had: the question that every access asks.
+pub fn access(mem: &[u8], a: u32, n: u32) -> Access
+    ensures { λ r. ⌜ r ≡ accessOf (mapped (now (mem .entry))) a n ⌝ }
 {
-    let at = a as usize;
-    match z {
-        Size::Byte => {
-            if at + 1 <= mem.len() {
-                return Got::Value(byte_at(mem, at));
-            }
-        }
-        Size::Word => {
-            if at + 2 <= mem.len() {
-                return Got::Value(word_at(mem, at));
-            }
-        }
-        Size::Long => {
-            if at + 4 <= mem.len() {
-                return Got::Value(inside_long(mem, at));
-            }
-        }
+    if a as usize + n as usize <= mem.len() {
+        Access::Here(a)
+    } else {
+        Access::Not(Fault::Outside)
     }
-    Got::Fault(Fault::Outside)
+}
+
+// The number of a size at an address, or the fault.
+pub fn load(mem: &[u8], a: u32, z: Size) -> Got
+    ensures { λ r. ⌜ r ≡ loadOf (mapped (now (mem .entry))) a z ⌝ }
+{
+    match z {
+        Size::Byte => match access(mem, a, 1) {
+            Access::Here(at) => Got::Value(byte_at(mem, at as usize)),
+            Access::Not(x) => Got::Fault(x),
+        },
+        Size::Word => match access(mem, a, 2) {
+            Access::Here(at) => Got::Value(word_at(mem, at as usize)),
+            Access::Not(x) => Got::Fault(x),
+        },
+        Size::Long => match access(mem, a, 4) {
+            Access::Here(at) => Got::Value(inside_long(mem, at as usize)),
+            Access::Not(x) => Got::Fault(x),
+        },
+    }
 }
 
 fn store_word(mem: &mut [u8], at: usize, v: u32)
@@ -85,7 +92,7 @@ fn store_word(mem: &mut [u8], at: usize, v: u32)
     mem[at] = (v / 0x100 % 0x100) as u8;
 }
 
-pub(crate) fn store_long(mem: &mut [u8], at: usize, v: u32)
+fn store_long(mem: &mut [u8], at: usize, v: u32)
     requires { ⌜ at + 4 ≤ length (now mem) ⌝ }
     ensures { λ _. ⌜ now (mem .exit) ≡ storeAt (now (mem .entry)) at 4 v ⌝ }
 {
@@ -93,30 +100,51 @@ pub(crate) fn store_long(mem: &mut [u8], at: usize, v: u32)
     store_word(mem, at, v / 0x1_0000);
 }
 
-// The low bytes of v: all of them, or none where one would be outside.
-pub fn store(mem: &mut [u8], a: u32, z: Size, v: u32) -> bool
-    ensures { λ r. ⌜ (r ≡ inside (now (mem .entry)) a (bytesOf z)) × (now (mem .exit) ≡ cond r (stored (now (mem .entry)) a z v) (now (mem .entry))) ⌝ }
+// Stores the low bytes of v: all of them, or none and the fault.
+pub fn store(mem: &mut [u8], a: u32, z: Size, v: u32) -> Stored
+    ensures { λ r. ⌜ (r ≡ storing (mapped (now (mem .entry))) a z) × (now (mem .exit) ≡ stored (mapped (now (mem .entry))) a z v) ⌝ }
 {
-    let at = a as usize;
     match z {
-        Size::Byte => {
-            if mem.len() < at + 1 {
-                return false;
+        Size::Byte => match access(&*mem, a, 1) {
+            Access::Here(at) => {
+                let i = at as usize;
+                mem[i] = (v % 0x100) as u8;
+                Stored::Done
             }
-            mem[at] = (v % 0x100) as u8;
-        }
-        Size::Word => {
-            if mem.len() < at + 2 {
-                return false;
+            Access::Not(x) => Stored::Fault(x),
+        },
+        Size::Word => match access(&*mem, a, 2) {
+            Access::Here(at) => {
+                store_word(mem, at as usize, v);
+                Stored::Done
             }
-            store_word(mem, at, v);
-        }
-        Size::Long => {
-            if mem.len() < at + 4 {
-                return false;
+            Access::Not(x) => Stored::Fault(x),
+        },
+        Size::Long => match access(&*mem, a, 4) {
+            Access::Here(at) => {
+                store_long(mem, at as usize, v);
+                Stored::Done
             }
-            store_long(mem, at, v);
-        }
+            Access::Not(x) => Stored::Fault(x),
+        },
     }
-    true
+}
+
+fn put_byte(mem: &mut [u8], at: usize, v: u32)
+    ensures { λ _. ⌜ now (mem .exit) ≡ set (now (mem .entry)) at (v % 0x100) ⌝ }
+{
+    if at < mem.len() {
+        mem[at] = (v % 0x100) as u8;
+    }
+}
+
+// Stores a long at a place that was asked for: a byte outside is not stored.
+pub fn put_long(mem: &mut [u8], place: u32, v: u32)
+    ensures { λ _. ⌜ now (mem .exit) ≡ storeAt (now (mem .entry)) place 4 v ⌝ }
+{
+    let at = place as usize;
+    put_byte(mem, at + 3, v);
+    put_byte(mem, at + 2, v / 0x100);
+    put_byte(mem, at + 1, v / 0x1_0000);
+    put_byte(mem, at, v / 0x100_0000);
 }

@@ -1,9 +1,11 @@
-// What a reply says: its number, and whether the call was done.
+// Replies: their numbers, whether a call was done, and the reply to a fault.
+use manual::Fault;
 use manual::Reply;
 ghost use mathlib.Core.Path.{_≡_};
 ghost use Prim.Native.Nat.{_<_};
-ghost use Rattle.manual.specs.Reply.{numberOf, isDone};
+ghost use Rattle.manual.specs.Reply.{numberOf, isDone, faultReply};
 
+// The number of a reply.
 pub fn number_of(reply: Reply) -> u32
     ensures { λ r. ⌜ (r ≡ numberOf reply) × (r < 10) ⌝ }
 {
@@ -21,19 +23,18 @@ pub fn number_of(reply: Reply) -> u32
     }
 }
 
+// Whether the call was done.
 pub fn is_done(reply: Reply) -> bool
     ensures { λ r. ⌜ r ≡ isDone reply ⌝ }
 {
-    match reply {
-        Reply::Done => true,
-        Reply::TooLong => false,
-        Reply::NotAdmitted => false,
-        Reply::Stopped => false,
-        Reply::NotInside => false,
-        Reply::NotCarried => false,
-        Reply::OutOfRange => false,
-        Reply::Masked => false,
-        Reply::WrongVersion => false,
-        Reply::WrongLength => false,
+    number_of(reply) == 0
+}
+
+// The reply to an access that memory does not take.
+pub fn fault_reply(x: Fault) -> Reply
+    ensures { λ r. ⌜ r ≡ faultReply x ⌝ }
+{
+    match x {
+        Fault::Outside => Reply::NotInside,
     }
 }

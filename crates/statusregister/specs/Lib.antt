@@ -1,2 +1,3 @@
 pub mod AdmittedLaws
 pub mod MaskLaws
+pub mod FirstLaws

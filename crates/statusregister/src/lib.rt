@@ -2,6 +2,8 @@
 use manual::Cpu;
 use manual::Emac;
 use manual::Level;
+use manual::Reply;
+use replies::is_done;
 use word::flags::both;
 use word::flags::same;
 use word::registers::address;
@@ -11,7 +13,11 @@ use word::registers::with_sr;
 ghost use mathlib.Core.Path.{_≡_};
 ghost use Prim.Native.Nat.{_+_, _*_, _/_, _%_, _^_};
 ghost use Rattle.manual.specs.Admitted.{status as statusOf, emacAdmitted, admitted as admittedOf};
+ghost use Rattle.manual.specs.Lent.{lent, lentRefusal, firstRefusal};
 ghost use Rattle.manual.specs.Exceptions.{setSr, handling as handlingOf};
+
+// Memory has at most 16,777,216 bytes.
+const LONGEST: usize = 0x100_0000;
 
 // The bits of 0xB71F.
 pub fn status(v: u32) -> u16
@@ -35,6 +41,32 @@ pub fn admitted(cpu: Cpu) -> bool
     let e = cpu.emac;
     let kept = status(cpu.sr as u32);
     (kept == cpu.sr) & emac_admitted(e)
+}
+
+// What is wrong with what is lent to a call, or done: 1.
+pub fn lent_refusal(mem: &[u8]) -> Reply
+    ensures { λ r. ⌜ r ≡ lentRefusal (lent (now (mem .entry))) ⌝ }
+{
+    if LONGEST < mem.len() {
+        Reply::TooLong
+    } else {
+        Reply::Done
+    }
+}
+
+// The reply of the first test that fails before a call begins, or done: 1, 2.
+pub fn first_refusal(cpu: Cpu, mem: &[u8]) -> Reply
+    ensures { λ r. ⌜ r ≡ firstRefusal cpu (lent (now (mem .entry))) ⌝ }
+{
+    let unusable = lent_refusal(mem);
+    if !is_done(unusable) {
+        return unusable;
+    }
+    if admitted(cpu) {
+        Reply::Done
+    } else {
+        Reply::NotAdmitted
+    }
 }
 
 pub fn with_status(cpu: Cpu, v: u32) -> Cpu

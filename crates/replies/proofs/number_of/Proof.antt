@@ -5,7 +5,6 @@ use Rattle.replies.proofs.number_of.Statement.{statement}
 use Rattle.replies.proofs.number_of.Tie as tie
 
 pub number-of-spec : {M : Type 1} → statement M
-unfolding numberOf
 number-of-spec =
     tie.close
     (tie.spec

@@ -1,5 +1,4 @@
 -- `exceptions::entry::left` meets its contract. Assumes nothing.
-use borrow.Author.Tests.{le-leb, lt-leb}
 use Rattle.manual.specs.Exceptions.{left as leftOf}
 use borrow.Author.Needs.{needs}
 use Rattle.exceptions.proofs.entry.left.Statement.{statement}
@@ -7,19 +6,21 @@ use Rattle.exceptions.proofs.entry.left.Tie as tie
 
 returns : tie.Need-returns
 unfolding leftOf
-returns c = rw (← c .before .before .before .address .ensures, ← c .before .before .plus .ensures, lt-leb _ _ (c .before .if1 .taken), ← c .refusal .ensures)
+returns c =
+    let c1 = c .before in let c2 = c1 .before in let c3 = c2 .before in let c4 = c3 .before in let c5 = c4 .before in
+    rw (← c5 .address .ensures, ← c4 .load .ensures, c2 .x .given .1, ← c .faulted .ensures)
 
 returns-2 : tie.Need-returns-2
 unfolding leftOf
 returns-2 c =
-    let c1 = c .before in let c2 = c1 .before in let c3 = c2 .before in let c4 = c3 .before in
-    rw (← c4 .address .ensures, ← c3 .plus .ensures, le-leb _ _ (c2 .if1 .left), lt-leb _ _ (c1 .if2 .taken), ← c .refusal2 .ensures)
+    let c1 = c .before in let c2 = c1 .before in let c3 = c2 .before in let c4 = c3 .before in let c5 = c4 .before in let c6 = c5 .before in let c7 = c6 .before in let c8 = c7 .before in let c9 = c8 .before in let c10 = c9 .before in
+    rw (← c10 .address .ensures, ← c9 .load .ensures, c7 .w .given .1, ← c5 .plus .ensures, ← c4 .load2 .ensures, c2 .x2 .given .1, ← c .faulted2 .ensures)
 
 returns-3 : tie.Need-returns-3
 unfolding leftOf
 returns-3 c =
-    let c1 = c .before in let c2 = c1 .before in let c3 = c2 .before in let c4 = c3 .before in let c5 = c4 .before in let c6 = c5 .before in
-    rw (← c6 .address .ensures, ← c5 .plus .ensures, le-leb _ _ (c4 .if1 .left), le-leb _ _ (c3 .if2 .left), ← c2 .long-at .ensures, ← c1 .long-at2 .ensures, ← c .returned .ensures)
+    let c1 = c .before in let c2 = c1 .before in let c3 = c2 .before in let c4 = c3 .before in let c5 = c4 .before in let c6 = c5 .before in let c7 = c6 .before in let c8 = c7 .before in let c9 = c8 .before in let c10 = c9 .before in
+    rw (← c10 .address .ensures, ← c9 .load .ensures, c7 .w .given .1, ← c5 .plus .ensures, ← c4 .load2 .ensures, c2 .pc .given .1, ← c .returned .ensures)
 
 pub left-spec : {M : Type 1} → statement M
 left-spec =
@@ -31,13 +32,11 @@ left-spec =
     (λ c. search needs)
     (λ c κs. search needs)
     returns
+    (λ c κs. search needs)
+    (λ c κs. search needs)
     (λ c. search needs)
     (λ c. search needs)
     (λ c κs. search needs)
     returns-2
-    (λ c. search needs)
-    (λ c κs. search needs)
-    (λ c. search needs)
-    (λ c κs. search needs)
     (λ c κs. search needs)
     returns-3)
