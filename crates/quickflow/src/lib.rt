@@ -6,6 +6,7 @@ use inplace::settled;
 use inplace::stored;
 use manual::Got;
 use manual::Size;
+use manual::Stored;
 use memory::load;
 use memory::many::load_many;
 use memory::many::store_many;
@@ -93,10 +94,10 @@ pub fn store_registers(g: &[u32; 16], pc: u32, sr: u16, mem: &mut [u8], op: u32)
     let a = address(g, op);
     let same = coded(sr, kept_codes(sr));
     if op / 8 % 8 == 2 {
-        if store_many(mem, g, mask, a) {
-            return Effect::Done(plus(at, 2), same);
-        }
-        return Effect::Left;
+        return match store_many(mem, g, mask, a) {
+            Stored::Done => Effect::Done(plus(at, 2), same),
+            Stored::Fault(_) => Effect::Left,
+        };
     }
     if op / 8 % 8 != 5 {
         return Effect::Left;
@@ -106,10 +107,10 @@ pub fn store_registers(g: &[u32; 16], pc: u32, sr: u16, mem: &mut [u8], op: u32)
         Got::Fault(_) => return Effect::Left,
     };
     let b = plus(a, sign_extended(Size::Word, d));
-    if store_many(mem, g, mask, b) {
-        return Effect::Done(plus(at, 4), same);
+    match store_many(mem, g, mask, b) {
+        Stored::Done => Effect::Done(plus(at, 4), same),
+        Stored::Fault(_) => Effect::Left,
     }
-    Effect::Left
 }
 
 // Line4.moveMany false
@@ -124,10 +125,10 @@ pub fn load_registers(g: &mut [u32; 16], pc: u32, sr: u16, mem: &[u8], op: u32) 
     let a = address(&*g, op);
     let same = coded(sr, kept_codes(sr));
     if op / 8 % 8 == 2 {
-        if load_many(mem, g, mask, a) {
-            return Effect::Done(plus(at, 2), same);
-        }
-        return Effect::Left;
+        return match load_many(mem, g, mask, a) {
+            Stored::Done => Effect::Done(plus(at, 2), same),
+            Stored::Fault(_) => Effect::Left,
+        };
     }
     if op / 8 % 8 != 5 {
         return Effect::Left;
@@ -137,8 +138,8 @@ pub fn load_registers(g: &mut [u32; 16], pc: u32, sr: u16, mem: &[u8], op: u32) 
         Got::Fault(_) => return Effect::Left,
     };
     let b = plus(a, sign_extended(Size::Word, d));
-    if load_many(mem, g, mask, b) {
-        return Effect::Done(plus(at, 4), same);
+    match load_many(mem, g, mask, b) {
+        Stored::Done => Effect::Done(plus(at, 4), same),
+        Stored::Fault(_) => Effect::Left,
     }
-    Effect::Left
 }
