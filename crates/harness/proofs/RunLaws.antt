@@ -9,6 +9,8 @@ use borrow.Author.Tests.{lt-ltb, ne-eqb}
 use Rattle.manual.specs.declared.Answer.{Answer}
 use Rattle.manual.specs.declared.Ran.{Ran}
 use Rattle.manual.specs.Reply.{numberOf, isDone}
+use Rattle.manual.specs.Memory.{Storage}
+use Rattle.manual.specs.Lent.{Lent}
 use Rattle.manual.specs.Block.{readBlock, storeBlock}
 use Rattle.instructions.specs.Run.{runOutcome, run}
 use Rattle.blockcalls.specs.Calls.{called, opened}
@@ -20,14 +22,14 @@ positive zero y z = refl
 positive (suc k) y z = rw (lt-ltb 0 (suc k) (omega arith), ne-eqb (suc k) 0 (λ e. omega arith))
 
 -- x is what was found in the block, d whether it was a state
-module _ (b m : List ℕ) (x : Answer) (d : Bool) (found : x ≡ opened b m) (is : d ≡ isDone (x .reply)) where
-  pub refused-run : (budget n : ℕ) → d ≡ false → n ≡ numberOf (x .reply) → called n b m ≡ runOn b m budget
+module _ (b : List ℕ) (l : Lent) (x : Answer) (d : Bool) (found : x ≡ opened b l) (is : d ≡ isDone (x .reply)) where
+  pub refused-run : (budget n : ℕ) → d ≡ false → n ≡ numberOf (x .reply) → called n b (l .storage) ≡ runOn b l budget
   unfolding runOn
-  refused-run budget n refused number = rw (told b m x d found is false refused, number, reply-is b m x d found is)
+  refused-run budget n refused number = rw (told b l x d found is false refused, number, reply-is b l x d found is)
 
-  pub ran-is : (budget : ℕ) (r : Ran) (m′ b′ : List ℕ) (n : ℕ) → d ≡ true → runOutcome r m′ ≡ run budget (x .cpu) m
-      → b′ ≡ cond (ltb 0 (r .count)) (storeBlock (r .cpu) b .bytes) b → n ≡ numberOf (r .reply) → called (n + 256 * r .count) b′ m′ ≡ runOn b m budget
+  pub ran-is : (budget : ℕ) (r : Ran) (m′ : Storage) (b′ : List ℕ) (n : ℕ) → d ≡ true → runOutcome r m′ ≡ run budget (x .cpu) l
+      → b′ ≡ cond (ltb 0 (r .count)) (storeBlock (r .cpu) b .bytes) b → n ≡ numberOf (r .reply) → called (n + 256 * r .count) b′ m′ ≡ runOn b l budget
   unfolding runOn
   ran-is budget r m′ b′ n read ran stored number =
-      let o : runOutcome r m′ ≡ run budget (readBlock b .cpu) m = ran ∙ ap (λ (a : Answer). run budget (a .cpu) m) found in
-      rw (told b m x d found is true read, ← o, number, stored, positive)
+      let o : runOutcome r m′ ≡ run budget (readBlock b .cpu) l = ran ∙ ap (λ (a : Answer). run budget (a .cpu) l) found in
+      rw (told b l x d found is true read, ← o, number, stored, positive)

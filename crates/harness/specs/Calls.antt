@@ -6,19 +6,20 @@ use mathlib.Core.List.{List}
 use lib.Dec.{eqb}
 use Rattle.manual.specs.declared.Answer.{Answer}
 use Rattle.manual.specs.Reply.{numberOf, isDone}
+use Rattle.manual.specs.Lent.{Lent}
 use Rattle.manual.specs.Block.{readBlock, storeBlock}
 use Rattle.instructions.specs.Step.{step}
 use Rattle.instructions.specs.Run.{RunOutcome, run}
 use Rattle.blockcalls.specs.Calls.{Called, called, notRead, onBlock}
 
-unfoldable pub stepOn : List ℕ → List ℕ → Called
-stepOn b m = let r : Answer = readBlock b in onBlock 256 r (step (r .cpu) m) b m
+unfoldable pub stepOn : List ℕ → Lent → Called
+stepOn b l = let r : Answer = readBlock b in onBlock 256 r (step (r .cpu) l) b l
 
 -- a run: the block holds the state after the steps that were done, and is unchanged where there were none
-unfoldable pub runOn : List ℕ → List ℕ → ℕ → Called
-runOn b m budget =
+unfoldable pub runOn : List ℕ → Lent → ℕ → Called
+runOn b l budget =
     let r : Answer = readBlock b in
-    let o : RunOutcome = run budget (r .cpu) m in
+    let o : RunOutcome = run budget (r .cpu) l in
     cond (isDone (r .reply))
-    (called (numberOf (o .ran .reply) + 256 * o .ran .count) (cond (eqb (o .ran .count) 0) b (storeBlock (o .ran .cpu) b .bytes)) (o .memory))
-    (notRead r b m)
+    (called (numberOf (o .ran .reply) + 256 * o .ran .count) (cond (eqb (o .ran .count) 0) b (storeBlock (o .ran .cpu) b .bytes)) (o .storage))
+    (notRead r b l)

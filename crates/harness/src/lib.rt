@@ -11,12 +11,14 @@ use replies::is_done;
 use replies::number_of;
 ghost use mathlib.Core.Path.{_≡_};
 ghost use Rattle.manual.specs.declared.Level.the-variants.{Kept, To};
+ghost use Rattle.manual.specs.Lent.{lent};
 ghost use Rattle.blockcalls.specs.Calls.{called, exceptionOn, interruptOn, rteOn};
 ghost use Rattle.harness.specs.Calls.{stepOn, runOn};
 
+// One step: the number of the reply, and 256 times the vector that was entered.
 #[no_mangle]
 pub extern "C" fn step(block: &mut [u8], mem: &mut [u8]) -> u32
-    ensures { λ r. ⌜ called r (now (block .exit)) (now (mem .exit)) ≡ stepOn (now (block .entry)) (now (mem .entry)) ⌝ }
+    ensures { λ r. ⌜ called r (now (block .exit)) (now (mem .exit)) ≡ stepOn (now (block .entry)) (lent (now (mem .entry))) ⌝ }
 {
     let read = opened(&*block, &*mem);
     let given = read.cpu;
@@ -31,9 +33,10 @@ pub extern "C" fn step(block: &mut [u8], mem: &mut [u8]) -> u32
     number_of(reply) + 256 * stepped.vector as u32
 }
 
+// A run: the number of the reply, and 256 times the steps that were done.
 #[no_mangle]
 pub extern "C" fn run(block: &mut [u8], mem: &mut [u8], budget: u32) -> u64
-    ensures { λ r. ⌜ called r (now (block .exit)) (now (mem .exit)) ≡ runOn (now (block .entry)) (now (mem .entry)) budget ⌝ }
+    ensures { λ r. ⌜ called r (now (block .exit)) (now (mem .exit)) ≡ runOn (now (block .entry)) (lent (now (mem .entry))) budget ⌝ }
 {
     let read = opened(&*block, &*mem);
     let given = read.cpu;
@@ -48,20 +51,23 @@ pub extern "C" fn run(block: &mut [u8], mem: &mut [u8], budget: u32) -> u64
     number_of(reply) as u64 + 256 * ran.count as u64
 }
 
+// Returns from an exception: the number of the reply.
 #[no_mangle]
 pub extern "C" fn rte(block: &mut [u8], mem: &mut [u8]) -> u32
-    ensures { λ r. ⌜ called r (now (block .exit)) (now (mem .exit)) ≡ rteOn (now (block .entry)) (now (mem .entry)) ⌝ }
+    ensures { λ r. ⌜ called r (now (block .exit)) (now (mem .exit)) ≡ rteOn (now (block .entry)) (lent (now (mem .entry))) ⌝ }
 {
     rte_call(block, mem)
 }
 
+// Enters an exception, keeping the mask: the number of the reply.
 #[no_mangle]
 pub extern "C" fn exception(block: &mut [u8], mem: &mut [u8], vector: u8, pc: u32) -> u32
-    ensures { λ r. ⌜ called r (now (block .exit)) (now (mem .exit)) ≡ exceptionOn (now (block .entry)) (now (mem .entry)) vector pc Kept ⌝ }
+    ensures { λ r. ⌜ called r (now (block .exit)) (now (mem .exit)) ≡ exceptionOn (now (block .entry)) (lent (now (mem .entry))) vector pc Kept ⌝ }
 {
     exception_call(block, mem, vector, pc)
 }
 
+// Enters an exception at a level: the number of the reply.
 #[no_mangle]
 pub extern "C" fn exception_at(
     block: &mut [u8],
@@ -70,14 +76,15 @@ pub extern "C" fn exception_at(
     pc: u32,
     level: u8,
 ) -> u32
-    ensures { λ r. ⌜ called r (now (block .exit)) (now (mem .exit)) ≡ exceptionOn (now (block .entry)) (now (mem .entry)) vector pc (To level) ⌝ }
+    ensures { λ r. ⌜ called r (now (block .exit)) (now (mem .exit)) ≡ exceptionOn (now (block .entry)) (lent (now (mem .entry))) vector pc (To level) ⌝ }
 {
     exception_at_call(block, mem, vector, pc, level)
 }
 
+// Enters an interrupt: the number of the reply.
 #[no_mangle]
 pub extern "C" fn interrupt(block: &mut [u8], mem: &mut [u8], vector: u8, level: u8) -> u32
-    ensures { λ r. ⌜ called r (now (block .exit)) (now (mem .exit)) ≡ interruptOn (now (block .entry)) (now (mem .entry)) vector level ⌝ }
+    ensures { λ r. ⌜ called r (now (block .exit)) (now (mem .exit)) ≡ interruptOn (now (block .entry)) (lent (now (mem .entry))) vector level ⌝ }
 {
     interrupt_call(block, mem, vector, level)
 }

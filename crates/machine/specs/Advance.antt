@@ -2,29 +2,29 @@
 -- `RunLaws` shows that this is what the definition's run and step say. Assumes nothing.
 use Prim.Native.Nat.{ℕ, zero, suc, _+_}
 use mathlib.Core.Bool.{Bool, true, false, cond}
-use mathlib.Core.List.{List}
 use Rattle.manual.specs.declared.Cpu.{Cpu}
 use Rattle.manual.specs.declared.Reply.{Reply}
 use Rattle.manual.specs.declared.Reply.the-variants.{Done}
+use Rattle.manual.specs.Memory.{Storage}
 use Rattle.manual.specs.Reply.{Outcome, isDone}
-use Rattle.manual.specs.Memory.{Memory}
+use Rattle.manual.specs.Lent.{Lent, lentOn}
 use Rattle.instructions.specs.Step.{step}
 use Rattle.machine.specs.declared.Progress.{Progress}
 
 pub record Advance : Type 0 where
-  pub came : Progress
-  pub memory : List ℕ
+  pub answer : Progress
+  pub storage : Storage
 
-abbrev pub advance : Progress → Memory → Advance
-advance r m = record { came = r; memory = m }
+abbrev pub advance : Progress → Storage → Advance
+advance r b = record { answer = r; storage = b }
 
 abbrev pub endedAs : Reply → ℕ → ℕ → Cpu → Progress
 endedAs reply count vector s = record { reply = reply; count = count; vector = vector; cpu = s }
 
-unfoldable pub progress : ℕ → ℕ → ℕ → Cpu → Memory → Advance
-progress zero count vector s m = advance (endedAs Done count vector s) m
-progress (suc left) count vector s m =
-    let o : Outcome = step s m in
+unfoldable pub progress : ℕ → ℕ → ℕ → Cpu → Lent → Advance
+progress zero count vector s l = advance (endedAs Done count vector s) (l .storage)
+progress (suc left) count vector s l =
+    let o : Outcome = step s l in
     cond (isDone (o .stepped .reply))
-    (progress left (count + 1) (o .stepped .vector) (o .stepped .cpu) (o .memory))
-    (advance (endedAs (o .stepped .reply) count 0 (o .stepped .cpu)) (o .memory))
+    (progress left (count + 1) (o .stepped .vector) (o .stepped .cpu) (lentOn l (o .storage)))
+    (advance (endedAs (o .stepped .reply) count 0 (o .stepped .cpu)) (o .storage))

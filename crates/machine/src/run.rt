@@ -16,17 +16,17 @@ use quick::Attempt;
 use quick::quick_step;
 use rows::row_by;
 use rows::top_rows;
-use statusregister::admitted;
+use replies::fault_reply;
+use replies::is_done;
+use statusregister::first_refusal;
 use word::registers::with_parts;
 ghost use mathlib.Core.Path.{_≡_};
 ghost use mathlib.Core.Bool.{true};
-ghost use Prim.Native.Nat.{_+_, _*_, _/_, _%_, _≤_};
-ghost use lib.ListN.{length};
-ghost use Rattle.manual.specs.Memory.{mapped};
+ghost use Prim.Native.Nat.{_+_, _*_, _/_, _%_};
 ghost use Rattle.manual.specs.Registers.{withParts};
 ghost use Rattle.manual.specs.Emac.{emacOf};
-ghost use Rattle.manual.specs.Reply.{outcome};
-ghost use Rattle.manual.specs.Admitted.{admitted as admittedOf};
+ghost use Rattle.manual.specs.Reply.{outcome, isDone};
+ghost use Rattle.manual.specs.Lent.{lent, firstRefusal};
 ghost use Rattle.instructions.specs.Step.{step as stepOf};
 ghost use Rattle.instructions.specs.Run.{runOutcome, run as runOf};
 ghost use Rattle.rows.specs.Top.{Sound};
@@ -44,7 +44,7 @@ fn ended(reply: Reply, count: u32, vector: u8, cpu: Cpu) -> Progress
 }
 
 // The state of its parts.
-fn together(rest: Cpu, g: [u32; 16], pc: u32, sr: u16, macsr: u32, mask: u32, acc: [u64; 4]) -> Cpu
+fn assembled(rest: Cpu, g: [u32; 16], pc: u32, sr: u16, macsr: u32, mask: u32, acc: [u64; 4]) -> Cpu
     ensures { λ s. ⌜ s ≡ withParts g pc sr (emacOf macsr mask acc) rest ⌝ }
 {
     with_parts(
@@ -64,8 +64,8 @@ fn together(rest: Cpu, g: [u32; 16], pc: u32, sr: u16, macsr: u32, mask: u32, ac
 // once, for every step keeps it admitted; the rows are found by the table that is lent. A word is tried by the quick path and then by the
 // plain engine, both in place; what neither does is done on the whole state.
 fn advanced(top: &[u8], given: Cpu, mem: &mut [u8], budget: u32) -> Progress
-    requires { ⌜ (length (now mem) ≤ 0x100_0000) × (admittedOf given ≡ true) × Sound (now top) ⌝ }
-    ensures { λ r. ⌜ advance r (now (mem .exit)) ≡ progress budget 0 0 given (mapped (now (mem .entry))) ⌝ }
+    requires { ⌜ (isDone (firstRefusal given (lent (now mem))) ≡ true) × Sound (now top) ⌝ }
+    ensures { λ r. ⌜ advance r (now (mem .exit)) ≡ progress budget 0 0 given (lent (now (mem .entry))) ⌝ }
 {
     let mut g = given.r;
     let mut pc = given.pc;
@@ -79,14 +79,14 @@ fn advanced(top: &[u8], given: Cpu, mem: &mut [u8], budget: u32) -> Progress
     while n < budget {
         let done = n + 1;
         if rest.stopped {
-            let last = together(rest, g, pc, sr, macsr, mask, acc);
+            let last = assembled(rest, g, pc, sr, macsr, mask, acc);
             return ended(Reply::Stopped, n, 0, last);
         }
         let op = match load(&*mem, pc, Size::Word) {
             Got::Value(op) => op,
-            Got::Fault(_) => {
-                let last = together(rest, g, pc, sr, macsr, mask, acc);
-                return ended(Reply::NotInside, n, 0, last);
+            Got::Fault(x) => {
+                let last = assembled(rest, g, pc, sr, macsr, mask, acc);
+                return ended(fault_reply(x), n, 0, last);
             }
         };
         let row = row_by(top, op);
@@ -118,13 +118,13 @@ fn advanced(top: &[u8], given: Cpu, mem: &mut [u8], budget: u32) -> Progress
             }
             Effect::Left => {}
         }
-        let held = together(rest, g, pc, sr, macsr, mask, acc);
+        let held = assembled(rest, g, pc, sr, macsr, mask, acc);
         let stepped = performed(row, held, mem, op);
         let next = stepped.cpu;
         let reply = stepped.reply;
-        let Reply::Done = reply else {
+        if !is_done(reply) {
             return ended(reply, n, 0, next);
-        };
+        }
         rest = next;
         g = next.r;
         pc = next.pc;
@@ -135,56 +135,49 @@ fn advanced(top: &[u8], given: Cpu, mem: &mut [u8], budget: u32) -> Progress
         vector = stepped.vector;
         n = done;
     }
-    let last = together(rest, g, pc, sr, macsr, mask, acc);
+    let last = assembled(rest, g, pc, sr, macsr, mask, acc);
     ended(Reply::Done, n, vector, last)
 }
 
+// As many steps as the budget says, or up to one that is refused: the reply, the count and the state.
 pub fn run(cpu: Cpu, mem: &mut [u8], budget: u32) -> Ran
-    ensures { λ r. ⌜ runOutcome r (now (mem .exit)) ≡ runOf budget cpu (mapped (now (mem .entry))) ⌝ }
+    ensures { λ r. ⌜ runOutcome r (now (mem .exit)) ≡ runOf budget cpu (lent (now (mem .entry))) ⌝ }
 {
-    if 0x100_0000 < mem.len() {
+    let first = first_refusal(cpu, &*mem);
+    if !is_done(first) {
         return Ran {
-            reply: Reply::TooLong,
-            count: 0,
-            cpu: cpu,
-        };
-    }
-    if !admitted(cpu) {
-        return Ran {
-            reply: Reply::NotAdmitted,
+            reply: first,
             count: 0,
             cpu: cpu,
         };
     }
     let top = top_rows();
-    let came = advanced(&top, cpu, mem, budget);
-    let reply = came.reply;
-    let last = came.cpu;
+    let end = advanced(&top, cpu, mem, budget);
+    let reply = end.reply;
+    let last = end.cpu;
     Ran {
         reply: reply,
-        count: came.count,
+        count: end.count,
         cpu: last,
     }
 }
 
-// One step is a run of one, so that the quick path has one caller and is compiled into the loop. It lends an empty table: to build the
-// table takes a third of the time of a step.
+// One step: the reply, the vector that was entered, or 0, and the state. It is a run of one, so that the quick path has one caller and is
+// compiled into the loop. It lends an empty table: to build the table takes a third of the time of a step.
 pub fn step(cpu: Cpu, mem: &mut [u8]) -> Stepped
-    ensures { λ r. ⌜ outcome r (now (mem .exit)) ≡ stepOf cpu (mapped (now (mem .entry))) ⌝ }
+    ensures { λ r. ⌜ outcome r (now (mem .exit)) ≡ stepOf cpu (lent (now (mem .entry))) ⌝ }
 {
-    if 0x100_0000 < mem.len() {
-        return refusal(cpu, Reply::TooLong);
-    }
-    if !admitted(cpu) {
-        return refusal(cpu, Reply::NotAdmitted);
+    let first = first_refusal(cpu, &*mem);
+    if !is_done(first) {
+        return refusal(cpu, first);
     }
     let none: [u8; 0] = [];
-    let came = advanced(&none, cpu, mem, 1);
-    let reply = came.reply;
-    let last = came.cpu;
+    let end = advanced(&none, cpu, mem, 1);
+    let reply = end.reply;
+    let last = end.cpu;
     Stepped {
         reply: reply,
-        vector: came.vector,
+        vector: end.vector,
         cpu: last,
     }
 }

@@ -1,3 +1,4 @@
 pub mod AdmittedLaws
 pub mod MaskLaws
 pub mod FirstLaws
+pub mod ReplyLaws
