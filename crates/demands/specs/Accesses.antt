@@ -29,7 +29,7 @@ use Rattle.manual.specs.Memory.{numberAt}
 use Rattle.manual.specs.Address.{operand, extension, locate, control}
 use Rattle.manual.specs.Differences.{anySize, vectorPlace}
 use Rattle.manual.specs.Exceptions.{setSr, handling, pcPlace, framePlace}
-use Rattle.instructions.specs.Rows.{rowOf, placeIn}
+use Rattle.instructions.specs.Rows.{firstRow, rowOf, placeIn}
 use Rattle.instructions.specs.Line6.{displacementBytes}
 use Rattle.instructions.specs.LineA.{loadAddress}
 use Rattle.instructions.specs.Step.{instruction}
@@ -103,21 +103,21 @@ module _ (g : List ℕ) (at : ℕ) (m : List ℕ) (op : ℕ) where
   unfoldable pub reads0 : ℕ → List Access
   reads0 row =
       getD
-      (none ∷  -- 0 BITREV
-      none ∷  -- 1 BYTEREV
-      none ∷  -- 2 FF1
-      longAt (plus at 2) ∷  -- 3 ORI
-      longAt (plus at 2) ∷  -- 4 ANDI
-      longAt (plus at 2) ∷  -- 5 SUBI
-      longAt (plus at 2) ∷  -- 6 ADDI
-      longAt (plus at 2) ∷  -- 7 EORI
-      words (plus at 2) (extension Immediate Byte) ∷  -- 8 CMPI_B
-      words (plus at 2) (extension Immediate Word) ∷  -- 9 CMPI_W
-      words (plus at 2) (extension Immediate Long) ∷  -- 10 CMPI_L
-      (wordAt (plus at 2) ++ operandAt g m (plus at 4) op Byte) ∷  -- 11 BITOP_IMM
-      source Byte ∷  -- 12 BITOP_DN
+      (none ∷  -- BITREV
+      none ∷  -- BYTEREV
+      none ∷  -- FF1
+      longAt (plus at 2) ∷  -- ORI
+      longAt (plus at 2) ∷  -- ANDI
+      longAt (plus at 2) ∷  -- SUBI
+      longAt (plus at 2) ∷  -- ADDI
+      longAt (plus at 2) ∷  -- EORI
+      words (plus at 2) (extension Immediate Byte) ∷  -- CMPI_B
+      words (plus at 2) (extension Immediate Word) ∷  -- CMPI_W
+      words (plus at 2) (extension Immediate Long) ∷  -- CMPI_L
+      (wordAt (plus at 2) ++ operandAt g m (plus at 4) op Byte) ∷  -- BITOP_IMM
+      source Byte ∷  -- BITOP_DN
       [])
-      (placeIn 0 row) none  -- 13 ILL_0
+      (placeIn (firstRow 0) row) none  -- ILL_0
 
   -- MOVE: the source, and the extension words of the destination, which lie after the source's
   abbrev pub moveReads : Size → List Access
@@ -125,13 +125,13 @@ module _ (g : List ℕ) (at : ℕ) (m : List ℕ) (op : ℕ) where
       source z ++ words (plus (plus at 2) (extension (named op) z)) (extension (operand (op / 64 % 8) (op / 512 % 8)) z)
 
   unfoldable pub reads1 : ℕ → List Access
-  reads1 row = getD (source Byte ∷ []) (placeIn 14 row) (moveReads Byte)  -- 14 MOVEA_B, 15 MOVE_B
+  reads1 row = getD (source Byte ∷ []) (placeIn (firstRow 1) row) (moveReads Byte)  -- MOVEA_B, MOVE_B
 
   unfoldable pub reads2 : ℕ → List Access
-  reads2 row = getD (source Long ∷ []) (placeIn 16 row) (moveReads Long)  -- 16 MOVEA_L, 17 MOVE_L
+  reads2 row = getD (source Long ∷ []) (placeIn (firstRow 2) row) (moveReads Long)  -- MOVEA_L, MOVE_L
 
   unfoldable pub reads3 : ℕ → List Access
-  reads3 row = getD (source Word ∷ []) (placeIn 18 row) (moveReads Word)  -- 18 MOVEA_W, 19 MOVE_W
+  reads3 row = getD (source Word ∷ []) (placeIn (firstRow 3) row) (moveReads Word)  -- MOVEA_W, MOVE_W
 
   -- STLDSR: the new status register, where the second word is 0x46FC
   abbrev pub statusReads : List Access
@@ -144,94 +144,94 @@ module _ (g : List ℕ) (at : ℕ) (m : List ℕ) (op : ℕ) where
   unfoldable pub reads4 : ℕ → List Access
   reads4 row =
       getD
-      (none ∷  -- 20 NOP
-      wordAt (plus at 2) ∷  -- 21 STOP
-      none ∷  -- 22 RTE
-      longAt (addressOf g 7) ∷  -- 23 RTS
-      none ∷  -- 24 MOVEC_READ
-      none ∷  -- 25 MOVEC_WRITE
-      none ∷  -- 26 HALT
-      none ∷  -- 27 PULSE
-      none ∷  -- 28 ILLEGAL
-      statusReads ∷  -- 29 STLDSR
-      none ∷  -- 30 EXTB
-      wordAt (plus at 2) ∷  -- 31 LINK
-      longAt (addressOf g op) ∷  -- 32 UNLK
-      none ∷  -- 33 TO_USP
-      none ∷  -- 34 FROM_USP
-      none ∷  -- 35 FROM_CCR
-      none ∷  -- 36 SWAP
-      none ∷  -- 37 EXT_W
-      none ∷  -- 38 EXT_L
-      none ∷  -- 39 SATS
-      none ∷  -- 40 NEGX
-      none ∷  -- 41 NEG
-      none ∷  -- 42 NOT
-      none ∷  -- 43 TRAP
-      controlAt g m (plus at 2) op ∷  -- 44 JSR
-      controlAt g m (plus at 2) op ∷  -- 45 JMP
-      none ∷  -- 46 FROM_SR
-      none ∷  -- 47 ILL_42C0
-      source Word ∷  -- 48 TO_CCR
-      source Word ∷  -- 49 TO_SR
-      controlAt g m (plus at 2) op ∷  -- 50 PEA
-      manyReads ∷  -- 51 MOVEM_STORE
-      manyReads ∷  -- 52 MOVEM_LOAD
-      (wordAt (plus at 2) ++ operandAt g m (plus at 4) op Long) ∷  -- 53 MUL_L
-      (wordAt (plus at 2) ++ operandAt g m (plus at 4) op Long) ∷  -- 54 DIV_L
-      source Byte ∷  -- 55 TAS
-      extensionOf (plus at 2) op (sizeOf (op / 64)) ∷  -- 56 CLR
-      source (sizeOf (op / 64)) ∷  -- 57 TST
-      controlAt g m (plus at 2) op ∷  -- 58 LEA
+      (none ∷  -- NOP
+      wordAt (plus at 2) ∷  -- STOP
+      none ∷  -- RTE
+      longAt (addressOf g 7) ∷  -- RTS
+      none ∷  -- MOVEC_READ
+      none ∷  -- MOVEC_WRITE
+      none ∷  -- HALT
+      none ∷  -- PULSE
+      none ∷  -- ILLEGAL
+      statusReads ∷  -- STLDSR
+      none ∷  -- EXTB
+      wordAt (plus at 2) ∷  -- LINK
+      longAt (addressOf g op) ∷  -- UNLK
+      none ∷  -- TO_USP
+      none ∷  -- FROM_USP
+      none ∷  -- FROM_CCR
+      none ∷  -- SWAP
+      none ∷  -- EXT_W
+      none ∷  -- EXT_L
+      none ∷  -- SATS
+      none ∷  -- NEGX
+      none ∷  -- NEG
+      none ∷  -- NOT
+      none ∷  -- TRAP
+      controlAt g m (plus at 2) op ∷  -- JSR
+      controlAt g m (plus at 2) op ∷  -- JMP
+      none ∷  -- FROM_SR
+      none ∷  -- ILL_42C0
+      source Word ∷  -- TO_CCR
+      source Word ∷  -- TO_SR
+      controlAt g m (plus at 2) op ∷  -- PEA
+      manyReads ∷  -- MOVEM_STORE
+      manyReads ∷  -- MOVEM_LOAD
+      (wordAt (plus at 2) ++ operandAt g m (plus at 4) op Long) ∷  -- MUL_L
+      (wordAt (plus at 2) ++ operandAt g m (plus at 4) op Long) ∷  -- DIV_L
+      source Byte ∷  -- TAS
+      extensionOf (plus at 2) op (sizeOf (op / 64)) ∷  -- CLR
+      source (sizeOf (op / 64)) ∷  -- TST
+      controlAt g m (plus at 2) op ∷  -- LEA
       [])
-      (placeIn 20 row) none  -- 59 ILL_4
+      (placeIn (firstRow 4) row) none  -- ILL_4
 
   unfoldable pub reads5 : ℕ → List Access
   reads5 row =
       getD
-      (none ∷  -- 60 TPF_W
-      none ∷  -- 61 TPF_L
-      none ∷  -- 62 TPF
-      none ∷  -- 63 ADDQ_AN_B
-      none ∷  -- 64 ADDQ_AN_W
-      none ∷  -- 65 ADDQ_AN_L
-      none ∷  -- 66 SCC
-      none ∷  -- 67 ILL_50C0
+      (none ∷  -- TPF_W
+      none ∷  -- TPF_L
+      none ∷  -- TPF
+      none ∷  -- ADDQ_AN_B
+      none ∷  -- ADDQ_AN_W
+      none ∷  -- ADDQ_AN_L
+      none ∷  -- SCC
+      none ∷  -- ILL_50C0
       [])
-      (placeIn 60 row) (source (anySize op))  -- 68 ADDQ
+      (placeIn (firstRow 5) row) (source (anySize op))  -- ADDQ
 
   -- a branch: the displacement, where it is not in the word
   unfoldable pub reads6 : ℕ → List Access
   reads6 row =
       getD
-      (words (plus at 2) (displacementBytes (op % 256)) ∷  -- 69 BRA
-      words (plus at 2) (displacementBytes (op % 256)) ∷  -- 70 BSR
+      (words (plus at 2) (displacementBytes (op % 256)) ∷  -- BRA
+      words (plus at 2) (displacementBytes (op % 256)) ∷  -- BSR
       [])
-      (placeIn 69 row) (words (plus at 2) (displacementBytes (op % 256)))  -- 71 BCC
+      (placeIn (firstRow 6) row) (words (plus at 2) (displacementBytes (op % 256)))  -- BCC
 
   unfoldable pub reads7 : ℕ → List Access
   reads7 row =
       getD
-      (source (sizeOf (op / 64 % 2)) ∷  -- 72 MVS
-      source (sizeOf (op / 64 % 2)) ∷  -- 73 MVZ
+      (source (sizeOf (op / 64 % 2)) ∷  -- MVS
+      source (sizeOf (op / 64 % 2)) ∷  -- MVZ
       [])
-      (placeIn 72 row) none  -- 74 MOVEQ
+      (placeIn (firstRow 7) row) none  -- MOVEQ
 
   -- lines 9 and D, from their first row on
   unfoldable pub reads9D : ℕ → ℕ → List Access
   reads9D first row =
       getD
-      (none ∷  -- 76 SUBX_B, 107 ADDX_B
-      none ∷  -- 77 SUBX_W, 108 ADDX_W
-      none ∷  -- 78 SUBX_L, 109 ADDX_L
-      none ∷  -- 79 SUB_ILL_B, 110 ADD_ILL_B
-      none ∷  -- 80 SUB_ILL_W, 111 ADD_ILL_W
-      none ∷  -- 81 SUB_ILL_L, 112 ADD_ILL_L
-      source Word ∷  -- 82 SUBA_W, 113 ADDA_W
-      source Long ∷  -- 83 SUBA_L, 114 ADDA_L
-      source (anySize op) ∷  -- 84 SUB_DN, 115 ADD_DN
+      (none ∷  -- SUBX_B, ADDX_B
+      none ∷  -- SUBX_W, ADDX_W
+      none ∷  -- SUBX_L, ADDX_L
+      none ∷  -- SUB_ILL_B, ADD_ILL_B
+      none ∷  -- SUB_ILL_W, ADD_ILL_W
+      none ∷  -- SUB_ILL_L, ADD_ILL_L
+      source Word ∷  -- SUBA_W, ADDA_W
+      source Long ∷  -- SUBA_L, ADDA_L
+      source (anySize op) ∷  -- SUB_DN, ADD_DN
       [])
-      (placeIn first row) (source (anySize op))  -- 85 SUB_MEM, 116 ADD_MEM
+      (placeIn first row) (source (anySize op))  -- SUB_MEM, ADD_MEM
 
   -- MAC and MSAC: the second word w; and the long of the parallel load, in modes 2 to 5 where w says a long operand. Mode 5 has its
   -- displacement before it
@@ -250,49 +250,49 @@ module _ (g : List ℕ) (at : ℕ) (m : List ℕ) (op : ℕ) where
   unfoldable pub readsA : ℕ → ℕ → List Access
   readsA mask row =
       getD
-      (none ∷  -- 86 MACSR_CCR
-      none ∷  -- 87 COPY_ACC
-      none ∷  -- 88 READ_MACSR
-      none ∷  -- 89 READ_MASK
-      none ∷  -- 90 READ_ACCEXT
-      source Long ∷  -- 91 WRITE_MACSR
-      source Long ∷  -- 92 WRITE_MASK
-      none ∷  -- 93 READ_ACC
-      source Long ∷  -- 94 WRITE_ACCEXT
-      source Long ∷  -- 95 WRITE_ACC
-      extensionOf (plus at 2) op Long ∷  -- 96 MOV3Q
-      macReads mask ∷  -- 97 MAC
+      (none ∷  -- MACSR_CCR
+      none ∷  -- COPY_ACC
+      none ∷  -- READ_MACSR
+      none ∷  -- READ_MASK
+      none ∷  -- READ_ACCEXT
+      source Long ∷  -- WRITE_MACSR
+      source Long ∷  -- WRITE_MASK
+      none ∷  -- READ_ACC
+      source Long ∷  -- WRITE_ACCEXT
+      source Long ∷  -- WRITE_ACC
+      extensionOf (plus at 2) op Long ∷  -- MOV3Q
+      macReads mask ∷  -- MAC
       [])
-      (placeIn 86 row) (source Long)  -- 98 LINEA
+      (placeIn (firstRow 0xA) row) (source Long)  -- LINEA
 
   unfoldable pub readsB : ℕ → List Access
   readsB row =
       getD
-      (source Word ∷  -- 99 CMPA_W
-      source Long ∷  -- 100 CMPA_L
-      source (sizeOf (op / 64)) ∷  -- 101 CMP
+      (source Word ∷  -- CMPA_W
+      source Long ∷  -- CMPA_L
+      source (sizeOf (op / 64)) ∷  -- CMP
       [])
-      (placeIn 99 row) (source (anySize op))  -- 102 EOR
+      (placeIn (firstRow 0xB) row) (source (anySize op))  -- EOR
 
   unfoldable pub readsC : ℕ → List Access
   readsC row =
       getD
-      (source Word ∷  -- 103 MULU_W
-      source Word ∷  -- 104 MULS_W
-      source (anySize op) ∷  -- 105 AND_DN
+      (source Word ∷  -- MULU_W
+      source Word ∷  -- MULS_W
+      source (anySize op) ∷  -- AND_DN
       [])
-      (placeIn 103 row) (source (anySize op))  -- 106 AND_MEM
+      (placeIn (firstRow 0xC) row) (source (anySize op))  -- AND_MEM
 
   unfoldable pub readsF : ℕ → List Access
   readsF row =
       getD
-      (controlAt g m (plus at 2) op ∷  -- 120 WDEBUG
-      none ∷  -- 121 CACHE
-      extensionOf (plus at 2) op (sizeOf (op / 64)) ∷  -- 122 WDDATA
+      (controlAt g m (plus at 2) op ∷  -- WDEBUG
+      none ∷  -- CACHE
+      extensionOf (plus at 2) op (sizeOf (op / 64)) ∷  -- WDDATA
       [])
-      (placeIn 120 row) none  -- 123 LINEF
+      (placeIn (firstRow 0xF) row) none  -- LINEF
 
-  -- the line is the top four bits; a word of line 8 (75) and a shift (117 to 119) read nothing. mask is the EMAC's
+  -- the line is the top four bits; a word of line 8 and a shift read nothing. mask is the EMAC's
   unfoldable pub reads : ℕ → List Access
   reads mask =
       let row : ℕ = rowOf op in
@@ -306,11 +306,11 @@ module _ (g : List ℕ) (at : ℕ) (m : List ℕ) (op : ℕ) where
       reads6 row ∷
       reads7 row ∷
       none ∷
-      reads9D 76 row ∷
+      reads9D (firstRow 9) row ∷
       readsA mask row ∷
       readsB row ∷
       readsC row ∷
-      reads9D 107 row ∷
+      reads9D (firstRow 0xD) row ∷
       none ∷
       [])
       (op / 0x1000 % 16) (readsF row)

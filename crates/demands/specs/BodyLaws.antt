@@ -32,7 +32,7 @@ use Rattle.manual.specs.Differences.{anySize}
 use Rattle.manual.specs.Emac.{has, readExt}
 use Rattle.manual.specs.Exceptions.{supervisor}
 use Rattle.manual.specs.Change.{done, store, acting, enterAfter, enter, illegal, privilege, notCarried, jump, push, reading, reaching}
-use Rattle.instructions.specs.Rows.{placeIn}
+use Rattle.instructions.specs.Rows.{firstRow, placeIn}
 use Rattle.instructions.specs.Line0 as l0
 use Rattle.instructions.specs.Moves as moves
 use Rattle.instructions.specs.Line4 as l4
@@ -48,6 +48,16 @@ use Rattle.instructions.specs.LineF as lf
 use Rattle.demands.specs.Accesses as acc
 use Rattle.demands.specs.Accesses.{Access, none, wordAt, longAt, words, named, extensionOf, operandAt, controlAt}
 use Rattle.demands.specs.PartLaws.{refusing, missed, Made, refused-4, illegal-made, privilege-made, cond-made, either-made, load-made, missing, unreached, reading-only, locate-made, put-made, put-found, locating-made, source-made, source-only, target-made, of-data, missing-immediate, control-missed, reaching-made, end, row, out, listed, all-made}
+
+-- the rows MOVEC_READ, MOVEC_WRITE and MAC, which have words that are not carried, by their places in their lines
+abbrev pub movecRead : ℕ
+movecRead = firstRow 4 + 4
+
+abbrev pub movecWrite : ℕ
+movecWrite = firstRow 4 + 5
+
+abbrev pub macRow : ℕ
+macRow = firstRow 0xA + 11
 
 module _ (g : List ℕ) (at sr : ℕ) (m : List ℕ) (op : ℕ) where
   -- the operand that the word names, right after it
@@ -118,7 +128,7 @@ module _ (g : List ℕ) (at sr : ℕ) (m : List ℕ) (op : ℕ) where
       (row (wordAt (plus at 2) ++ operandAt g m (plus at 4) op Byte) (l0.bitByImmediate g at sr m op) by-immediate
       (row (from Byte) (l0.bitByRegister g at sr m op) by-register
       end)))))))))))))
-      (placeIn 0 n) none (illegal at sr) (illegal-made m at sr)
+      (placeIn (firstRow 0) n) none (illegal at sr) (illegal-made m at sr)
 
   -- ---- lines 1, 2 and 3
 
@@ -152,15 +162,15 @@ module _ (g : List ℕ) (at sr : ℕ) (m : List ℕ) (op : ℕ) where
 
   pub line1-made : (n : ℕ) → Made m (acc.reads1 g at m op n) (moves.line1 n g at sr m op)
   unfolding acc.reads1 moves.line1
-  line1-made n = all-made (row (from Byte) (moves.moveAddress Byte g at sr m op) (move-address Byte) end) (placeIn 14 n) _ _ (move-made Byte)
+  line1-made n = all-made (row (from Byte) (moves.moveAddress Byte g at sr m op) (move-address Byte) end) (placeIn (firstRow 1) n) _ _ (move-made Byte)
 
   pub line2-made : (n : ℕ) → Made m (acc.reads2 g at m op n) (moves.line2 n g at sr m op)
   unfolding acc.reads2 moves.line2
-  line2-made n = all-made (row (from Long) (moves.moveAddress Long g at sr m op) (move-address Long) end) (placeIn 16 n) _ _ (move-made Long)
+  line2-made n = all-made (row (from Long) (moves.moveAddress Long g at sr m op) (move-address Long) end) (placeIn (firstRow 2) n) _ _ (move-made Long)
 
   pub line3-made : (n : ℕ) → Made m (acc.reads3 g at m op n) (moves.line3 n g at sr m op)
   unfolding acc.reads3 moves.line3
-  line3-made n = all-made (row (from Word) (moves.moveAddress Word g at sr m op) (move-address Word) end) (placeIn 18 n) _ _ (move-made Word)
+  line3-made n = all-made (row (from Word) (moves.moveAddress Word g at sr m op) (move-address Word) end) (placeIn (firstRow 3) n) _ _ (move-made Word)
 
   -- ---- line 4
 
@@ -296,10 +306,10 @@ module _ (g : List ℕ) (at sr : ℕ) (m : List ℕ) (op : ℕ) where
       (source-only m g (plus at 4) op Long _
       (λ v. either-made m (eqb v 0) [] _ _ refl (either-made m (l4.divided _ (dataOf g (_ / 0x1000)) v .fits) [] _ _ refl refl))))
 
-  pub line4-made : (other n : ℕ) → ((20 + placeIn 20 n ≡ 24) ⊎ (20 + placeIn 20 n ≡ 25)) ⊎ Made m (acc.reads4 g at m op n) (l4.line4 n g at sr other m op)
+  pub line4-made : (other n : ℕ) → ((firstRow 4 + placeIn (firstRow 4) n ≡ movecRead) ⊎ (firstRow 4 + placeIn (firstRow 4) n ≡ movecWrite)) ⊎ Made m (acc.reads4 g at m op n) (l4.line4 n g at sr other m op)
   unfolding acc.reads4 l4.line4 l4.nothing l4.halt l4.trap l4.fromCcr l4.swap l4.extendByte l4.extendToWord l4.extendToLong l4.saturate l4.negate l4.negateExtended l4.complement jump done acting enter enterAfter
   line4-made other n =
-      listed {P = λ k. (k ≡ 24) ⊎ (k ≡ 25)}
+      listed {P = λ k. (k ≡ movecRead) ⊎ (k ≡ movecWrite)}
       (row none (l4.nothing at sr) refl
       (row (wordAt (plus at 2)) (l4.stop at sr m) stop-made
       (row none (l4.rte at sr) rte-made
@@ -340,7 +350,7 @@ module _ (g : List ℕ) (at sr : ℕ) (m : List ℕ) (op : ℕ) where
       (row (from (sizeOf (op / 64))) (l4.test g at sr m op) test-made
       (row address-words (l4.lea g at sr m op) lea-made
       end)))))))))))))))))))))))))))))))))))))))
-      (placeIn 20 n) none (illegal at sr) (illegal-made m at sr)
+      (placeIn (firstRow 4) n) none (illegal at sr) (illegal-made m at sr)
 
   -- ---- lines 9 and D, and 5
 
@@ -389,7 +399,7 @@ module _ (g : List ℕ) (at sr : ℕ) (m : List ℕ) (op : ℕ) where
       (row none (l5.setByCondition g at sr op) refl
       (row none (illegal at sr) (illegal-made m at sr)
       end))))))))
-      (placeIn 60 n) (from (anySize op)) _ quick-made
+      (placeIn (firstRow 5) n) (from (anySize op)) _ quick-made
 
   -- ---- lines 6 and 7
 
@@ -433,7 +443,7 @@ module _ (g : List ℕ) (at sr : ℕ) (m : List ℕ) (op : ℕ) where
   pub line6-made : (n : ℕ) → Made m (acc.reads6 g at m op n) (l6.line6 n g at sr m op)
   unfolding acc.reads6 l6.line6
   line6-made n =
-      all-made (row branch-words (l6.bra at sr m op) bra-made (row branch-words (l6.bsr g at sr m op) bsr-made end)) (placeIn 69 n) branch-words _ bcc-made
+      all-made (row branch-words (l6.bra at sr m op) bra-made (row branch-words (l6.bsr g at sr m op) bsr-made end)) (placeIn (firstRow 6) n) branch-words _ bcc-made
 
   move-signed : Made m (from (sizeOf (op / 64 % 2))) (l7.moveSigned g at sr m op)
   unfolding l7.moveSigned done
@@ -447,7 +457,7 @@ module _ (g : List ℕ) (at sr : ℕ) (m : List ℕ) (op : ℕ) where
   unfolding acc.reads7 l7.line7 l7.moveQuick done
   line7-made n =
       let l : List Access = from (sizeOf (op / 64 % 2)) in
-      all-made (row l (l7.moveSigned g at sr m op) move-signed (row l (l7.moveZero g at sr m op) move-zero end)) (placeIn 72 n) none (l7.moveQuick at sr op) refl
+      all-made (row l (l7.moveSigned g at sr m op) move-signed (row l (l7.moveZero g at sr m op) move-zero end)) (placeIn (firstRow 7) n) none (l7.moveQuick at sr op) refl
 
   -- ---- lines B, C, E and F
 
@@ -473,7 +483,7 @@ module _ (g : List ℕ) (at sr : ℕ) (m : List ℕ) (op : ℕ) where
       (row (from Long) (lb.compareAddress Long g at sr m op) (compare-address Long)
       (row (from (sizeOf (op / 64))) (lb.compareData g at sr m op) compare-data
       end)))
-      (placeIn 99 n) (from (anySize op)) _ (logic-to-place Eor)
+      (placeIn (firstRow 0xB) n) (from (anySize op)) _ (logic-to-place Eor)
 
   logic-to-data : (l : Logic) → Made m (from (anySize op)) (lc.logicToData l g at sr m op)
   unfolding lc.logicToData done
@@ -491,12 +501,12 @@ module _ (g : List ℕ) (at sr : ℕ) (m : List ℕ) (op : ℕ) where
       (row (from Word) (lc.multiplyWords true g at sr m op) (multiply-words true)
       (row (from (anySize op)) (lc.logicToData And g at sr m op) (logic-to-data And)
       end)))
-      (placeIn 103 n) (from (anySize op)) _ (logic-to-place And)
+      (placeIn (firstRow 0xC) n) (from (anySize op)) _ (logic-to-place And)
 
   -- a shift, and every other word of the line, reads nothing
   pub lineE-made : (n : ℕ) → Made m none (le.lineE n g at sr op)
   unfolding le.lineE le.shift done
-  lineE-made n = by (placeIn 117 n)
+  lineE-made n = by (placeIn (firstRow 0xE) n)
     where
       by : (i : ℕ) → Made m none (getD (le.shift true g at sr op ∷ le.shift false g at sr op ∷ []) i (illegal at sr))
       by zero = refl
@@ -530,7 +540,7 @@ module _ (g : List ℕ) (at sr : ℕ) (m : List ℕ) (op : ℕ) where
       (row none (lf.cacheLine at sr) cache-line
       (row (extensionOf (plus at 2) op (sizeOf (op / 64))) (lf.writeDebugData g at sr m op) debug-data
       end)))
-      (placeIn 120 n) none (enter sr 11 at) refl
+      (placeIn (firstRow 0xF) n) none (enter sr 11 at) refl
 
   -- ---- line A
 
@@ -561,10 +571,10 @@ module _ (g : List ℕ) (at sr : ℕ) (m : List ℕ) (op : ℕ) where
   unfolding la.unassigned enterAfter acting
   unassigned-made = source-only m g (plus at 2) op Long _ (λ v. refl)
 
-  pub lineA-made : (e : Emac) (n : ℕ) → (86 + placeIn 86 n ≡ 97) ⊎ Made m (acc.readsA g at m op (e .mask) n) (la.lineA n g at sr e m op)
+  pub lineA-made : (e : Emac) (n : ℕ) → (firstRow 0xA + placeIn (firstRow 0xA) n ≡ macRow) ⊎ Made m (acc.readsA g at m op (e .mask) n) (la.lineA n g at sr e m op)
   unfolding acc.readsA la.lineA la.macsrToCcr la.copy la.toGeneral done acting
   lineA-made e n =
-      listed {P = λ k. k ≡ 97}
+      listed {P = λ k. k ≡ macRow}
       (row none (la.macsrToCcr at (e .macsr)) refl
       (row none (la.copy at sr op) refl
       (row none (la.toGeneral at sr op (e .macsr)) refl
@@ -578,4 +588,4 @@ module _ (g : List ℕ) (at sr : ℕ) (m : List ℕ) (op : ℕ) where
       (row (extensionOf (plus at 2) op Long) (la.moveThree g at sr m op) move-three
       (out (acc.macReads g at m op (e .mask)) (la.mac g at sr (e .mask) m op) refl
       end))))))))))))
-      (placeIn 86 n) (from Long) _ unassigned-made
+      (placeIn (firstRow 0xA) n) (from Long) _ unassigned-made

@@ -21,7 +21,7 @@ use Rattle.manual.specs.Emac as emac
 use Rattle.manual.specs.Admitted as admitted
 use Rattle.manual.specs.Change as change
 use Rattle.manual.specs.Exceptions as exceptions
-use Rattle.instructions.specs.Rows.{rowOf, placeIn}
+use Rattle.instructions.specs.Rows.{value, mask, rowOf, placeIn}
 use Rattle.instructions.specs.Line0 as l0
 use Rattle.instructions.specs.Line4 as l4
 use Rattle.instructions.specs.Line9D as l9
@@ -97,6 +97,10 @@ undone a7 sr vector pc =
     at ∷ memory.numberAt (o .memory) at Long ∷ memory.numberAt (o .memory) (at + 4) Long
     ∷ registers.addressOf (b .stepped .cpu .r) 7 ∷ b .stepped .cpu .pc ∷ []
 
+-- words that two rows fit
+abbrev twoFit : List ℕ
+twoFit = 0x49C3 ∷ 0x49D3 ∷ 0x4AC8 ∷ 0x4AD0 ∷ 0xA110 ∷ 0xA114 ∷ []
+
 pub examples : List Example
 examples =
     -- ADD.L 0xFFFFFFFB+5: 0, XZC. ADD.B 0x7F+1: 0x80, NV. SUB.B 0-1: 0xFF, XNC
@@ -122,8 +126,9 @@ examples =
     ∷ (accumulated (0xA000 ∷ 0x0800 ∷ []) 0x8000_0000 0x20 is 0 ∷ (2 ^ 39) ∷ [])
     -- A7 0x103, SR 0x2700, vector 32: frame at 0xF8, first long 0x70802700, A7 0xF8; return gives 0x103
     ∷ (undone 0x103 0x2700 32 0x1234 is 0xF8 ∷ 0x7080_2700 ∷ 0x1234 ∷ 0x103 ∷ 0x1234 ∷ [])
-    -- 49C3 is EXTB, 49D3 LEA; 4AC8 HALT, 4AD0 TAS; A110 copy, A114 a write to ACC: rows 30, 58, 26, 55, 87 and 95
-    ∷ (map rowOf (0x49C3 ∷ 0x49D3 ∷ 0x4AC8 ∷ 0x4AD0 ∷ 0xA110 ∷ 0xA114 ∷ []) is 30 ∷ 58 ∷ 26 ∷ 55 ∷ 87 ∷ 95 ∷ [])
+    -- 49C3 is EXTB, 49D3 LEA; 4AC8 HALT, 4AD0 TAS; A110 copy, A114 a write to ACC: the values and the fixed bits of their rows
+    ∷ (map (λ w. value (rowOf w)) twoFit is 0x49C0 ∷ 0x41C0 ∷ 0x4AC8 ∷ 0x4AC0 ∷ 0xA110 ∷ 0xA100 ∷ [])
+    ∷ (map (λ w. mask (rowOf w)) twoFit is 0xFFF8 ∷ 0xF1C0 ∷ 0xFFFF ∷ 0xFFC0 ∷ 0xF9FC ∷ 0xF9C0 ∷ [])
     -- the write is from (A4): with A4 at 0, ACC0 is the long there, 0xA1140007 as a signed number
     ∷ (accumulated (0xA114 ∷ 0x0007 ∷ []) 0 0 is 0 ∷ (2 ^ 48 + 0xA114_0007 - 2 ^ 32) ∷ [])
     ∷ [])

@@ -22,7 +22,7 @@ use Rattle.manual.specs.Change.{acting, enterAfter, enter, notCarried, reading}
 use Rattle.word.specs.TestLaws.{by-lt}
 use Rattle.rows.specs.TableLaws.{agree, allBelow, below}
 use Rattle.rows.specs.RowLaws.{rowOf-fits, rowOf-is, unique, in-line}
-use Rattle.instructions.specs.Rows.{value as rowValue, mask as rowMask, fixedBits, rowOf, placeIn}
+use Rattle.instructions.specs.Rows.{rowCount, firstRow, value as rowValue, mask as rowMask, fixedBits, rowOf, placeIn}
 use Rattle.instructions.specs.Step.{instruction}
 use Rattle.instructions.specs.Line0 as l0
 use Rattle.instructions.specs.Moves as moves
@@ -39,7 +39,7 @@ use Rattle.instructions.specs.LineF as lf
 use Rattle.demands.specs.Accesses as acc
 use Rattle.demands.specs.Accesses.{Access, none, wordAt, longAt}
 use Rattle.demands.specs.PartLaws.{missed, Made, refused-4, cond-made, load-made, end, row, out, listed}
-use Rattle.demands.specs.BodyLaws.{line0-made, line1-made, line2-made, line3-made, line4-made, sums-made, line5-made, line6-made, line7-made, lineB-made, lineC-made, lineE-made, lineF-made, lineA-made}
+use Rattle.demands.specs.BodyLaws.{movecRead, movecWrite, macRow, line0-made, line1-made, line2-made, line3-made, line4-made, sums-made, line5-made, line6-made, line7-made, lineB-made, lineC-made, lineE-made, lineF-made, lineA-made}
 
 -- ---- MAC and MSAC: a word operand is not carried, in the modes that an instruction of the line has
 
@@ -131,16 +131,16 @@ module _ (g : List ℕ) (at sr mask : ℕ) (m : List ℕ) (op : ℕ) where
 -- ---- the words that are not carried, by their rows
 
 -- the row of a word of a line, by its place
-row-at : (first n k : ℕ) → k < 100 → first + placeIn first n ≡ first + k → n ≡ first + k
+row-at : (first n r : ℕ) → r < rowCount → first + placeIn first n ≡ r → n ≡ r
 unfolding placeIn
-row-at first n k h e = by-lt n first
+row-at first n r h e = by-lt n first
     (λ l. absurd (none (rw (lt-ltb n first l) at e)))
     (λ l. some l (rw (le-ltb n first l) at e))
   where
-    none : first + 124 ≡ first + k → ⊥
+    none : first + rowCount ≡ r → ⊥
     none e = omega arith
 
-    some : first ≤ n → first + (n - first) ≡ first + k → n ≡ first + k
+    some : first ≤ n → first + (n - first) ≡ r → n ≡ r
     some l e = omega arith
 
 module _ (op : ℕ) (small : op < 0x1_0000) where
@@ -150,39 +150,39 @@ module _ (op : ℕ) (small : op < 0x1_0000) where
   whole-word : (v : ℕ) → bitAnd op 0xFFFF ≡ v → op ≡ v
   whole-word v e = omega (arith, sym (and-mask op 16) ∙ e)
 
-  pub movec-read : rowOf op ≡ 24 → op ≡ 0x4E7A
-  movec-read e = whole-word 0x4E7A (fits-row 24 e)
+  pub movec-read : rowOf op ≡ movecRead → op ≡ 0x4E7A
+  movec-read e = whole-word 0x4E7A (fits-row movecRead e)
 
-  pub movec-write : rowOf op ≡ 25 → op ≡ 0x4E7B
-  movec-write e = whole-word 0x4E7B (fits-row 25 e)
+  pub movec-write : rowOf op ≡ movecWrite → op ≡ 0x4E7B
+  movec-write e = whole-word 0x4E7B (fits-row movecWrite e)
 
-  pub mac-fits : rowOf op ≡ 97 → bitAnd op 0xF100 ≡ 0xA000
-  mac-fits e = fits-row 97 e
+  pub mac-fits : rowOf op ≡ macRow → bitAnd op 0xF100 ≡ 0xA000
+  mac-fits e = fits-row macRow e
 
 -- no row that fits a word of the row MAC, A000/F100, has more fixed bits
 abbrev asMac : ℕ → Bool
-asMac q = elim (eqb (bitAnd (rowValue q) 0xF100) (bitAnd 0xA000 (rowMask q))) [ true ↦ leb (fixedBits q) (fixedBits 97) | false ↦ true ]
+asMac q = elim (eqb (bitAnd (rowValue q) 0xF100) (bitAnd 0xA000 (rowMask q))) [ true ↦ leb (fixedBits q) (fixedBits macRow) | false ↦ true ]
 
-most-mac : T (allBelow asMac 124)
+most-mac : T (allBelow asMac rowCount)
 most-mac = tt
 
 if-so : (b c : Bool) → b ≡ true → T (elim b [ true ↦ c | false ↦ true ]) → T c
 if-so true c e t = t
 if-so false c e t = absurd (false≢true e)
 
-pub mac-row : (op : ℕ) → op < 0x1_0000 → bitAnd op 0xF100 ≡ 0xA000 → rowOf op ≡ 97
+pub mac-row : (op : ℕ) → op < 0x1_0000 → bitAnd op 0xF100 ≡ 0xA000 → rowOf op ≡ macRow
 mac-row op small f =
-    unique op (rowOf op) 97 (rowOf-is op small)
-    (record { isRow = lit< tt; fitting = f; most = λ q l h. at-most q (agree op (rowValue q) (rowMask q) 0xA000 0xF100 h f) (below asMac 124 most-mac q l) })
+    unique op (rowOf op) macRow (rowOf-is op small)
+    (record { isRow = lit< tt; fitting = f; most = λ q l h. at-most q (agree op (rowValue q) (rowMask q) 0xA000 0xF100 h f) (below asMac rowCount most-mac q l) })
   where
-    at-most : (q : ℕ) → bitAnd (rowValue q) 0xF100 ≡ bitAnd 0xA000 (rowMask q) → T (asMac q) → fixedBits q ≤ fixedBits 97
+    at-most : (q : ℕ) → bitAnd (rowValue q) 0xF100 ≡ bitAnd 0xA000 (rowMask q) → T (asMac q) → fixedBits q ≤ fixedBits macRow
     at-most q e t = leb→le _ _ (if-so _ _ (eq-eqb _ _ e) t)
 
 -- ---- every instruction
 
 -- line 8, the rows MOVEC_READ and MOVEC_WRITE, and the row MAC with a word operand
 abbrev pub Excused : ℕ → List ℕ → ℕ → Type 0
-Excused at m op = (op / 0x1000 % 16 ≡ 8) ⊎ (((rowOf op ≡ 24) ⊎ (rowOf op ≡ 25)) ⊎ ((rowOf op ≡ 97) × MacWord at m op))
+Excused at m op = (op / 0x1000 % 16 ≡ 8) ⊎ (((rowOf op ≡ movecRead) ⊎ (rowOf op ≡ movecWrite)) ⊎ ((rowOf op ≡ macRow) × MacWord at m op))
 
 module _ (g : List ℕ) (at sr other : ℕ) (e : Emac) (m : List ℕ) (op : ℕ) where
   abbrev its-reads : List Access
@@ -205,11 +205,11 @@ module _ (g : List ℕ) (at sr other : ℕ) (e : Emac) (m : List ℕ) (op : ℕ)
       (row (acc.reads6 g at m op n) (l6.line6 n g at sr m op) (line6-made g at sr m op n)
       (row (acc.reads7 g at m op n) (l7.line7 n g at sr m op) (line7-made g at sr m op n)
       (out none notCarried (inr (inl refl))
-      (row (acc.reads9D g at m op 76 n) (l9.line9 n g at sr m op) (sums-made g at sr m op 76 false n)
+      (row (acc.reads9D g at m op (firstRow 9) n) (l9.line9 n g at sr m op) (sums-made g at sr m op (firstRow 9) false n)
       (out (acc.readsA g at m op (e .mask) n) (la.lineA n g at sr e m op) (inr (inr refl))
       (row (acc.readsB g at m op n) (lb.lineB n g at sr m op) (lineB-made g at sr m op n)
       (row (acc.readsC g at m op n) (lc.lineC n g at sr m op) (lineC-made g at sr m op n)
-      (row (acc.reads9D g at m op 107 n) (l9.lineD n g at sr m op) (sums-made g at sr m op 107 true n)
+      (row (acc.reads9D g at m op (firstRow 0xD) n) (l9.lineD n g at sr m op) (sums-made g at sr m op (firstRow 0xD) true n)
       (row none (le.lineE n g at sr op) (lineE-made g at sr m op n)
       end)))))))))))))))
       (op / 0x1000 % 16) (acc.readsF g at m op n) (lf.lineF n g at sr m op) (lineF-made g at sr m op n)
@@ -226,12 +226,12 @@ module _ (g : List ℕ) (at sr other : ℕ) (e : Emac) (m : List ℕ) (op : ℕ)
   unfolding acc.reads instruction
   in-line-a h = (rw h, rw h)
 
-  movec-at : (rowOf op ≡ 24) ⊎ (rowOf op ≡ 25) → (l4.line4 (rowOf op) g at sr other m op ≡ notCarried) × (acc.reads4 g at m op (rowOf op) ≡ none)
+  movec-at : (rowOf op ≡ movecRead) ⊎ (rowOf op ≡ movecWrite) → (l4.line4 (rowOf op) g at sr other m op ≡ notCarried) × (acc.reads4 g at m op (rowOf op) ≡ none)
   unfolding acc.reads4 l4.line4 placeIn
   movec-at (inl h) = (rw h, rw h)
   movec-at (inr h) = (rw h, rw h)
 
-  at-mac : rowOf op ≡ 97 → (la.lineA (rowOf op) g at sr e m op ≡ la.mac g at sr (e .mask) m op) × (acc.readsA g at m op (e .mask) (rowOf op) ≡ acc.macReads g at m op (e .mask))
+  at-mac : rowOf op ≡ macRow → (la.lineA (rowOf op) g at sr e m op ≡ la.mac g at sr (e .mask) m op) × (acc.readsA g at m op (e .mask) (rowOf op) ≡ acc.macReads g at m op (e .mask))
   unfolding acc.readsA la.lineA placeIn
   at-mac h = (rw h, rw h)
 
@@ -242,17 +242,17 @@ module _ (g : List ℕ) (at sr other : ℕ) (e : Emac) (m : List ℕ) (op : ℕ)
   line-4 : op / 0x1000 % 16 ≡ 4 → Either
   line-4 h = ⊎-elim not-carried (λ f. inr (rw (in-line-4 h .0, in-line-4 h .1) f)) (line4-made g at sr m op other (rowOf op))
     where
-      not-carried : (20 + placeIn 20 (rowOf op) ≡ 24) ⊎ (20 + placeIn 20 (rowOf op) ≡ 25) → Either
+      not-carried : (firstRow 4 + placeIn (firstRow 4) (rowOf op) ≡ movecRead) ⊎ (firstRow 4 + placeIn (firstRow 4) (rowOf op) ≡ movecWrite) → Either
       not-carried k =
-          let r : (rowOf op ≡ 24) ⊎ (rowOf op ≡ 25) = ⊎-elim (λ x. inl (row-at 20 (rowOf op) 4 (lit< tt) x)) (λ x. inr (row-at 20 (rowOf op) 5 (lit< tt) x)) k in
+          let r : (rowOf op ≡ movecRead) ⊎ (rowOf op ≡ movecWrite) = ⊎-elim (λ x. inl (row-at (firstRow 4) (rowOf op) movecRead (lit< tt) x)) (λ x. inr (row-at (firstRow 4) (rowOf op) movecWrite (lit< tt) x)) k in
           inl (inr (inl r), (in-line-4 h .0 ∙ movec-at r .0, ap (missed m) (in-line-4 h .1 ∙ movec-at r .1)))
 
   line-a : op / 0x1000 % 16 ≡ 10 → Either
   line-a h = ⊎-elim row-mac (λ f. inr (rw (in-line-a h .0, in-line-a h .1) f)) (lineA-made g at sr m op e (rowOf op))
     where
-      row-mac : 86 + placeIn 86 (rowOf op) ≡ 97 → Either
+      row-mac : firstRow 0xA + placeIn (firstRow 0xA) (rowOf op) ≡ macRow → Either
       row-mac k =
-          let r : rowOf op ≡ 97 = row-at 86 (rowOf op) 11 (lit< tt) k in
+          let r : rowOf op ≡ macRow = row-at (firstRow 0xA) (rowOf op) macRow (lit< tt) k in
           let c : its-change ≡ la.mac g at sr (e .mask) m op = in-line-a h .0 ∙ at-mac r .0 in
           let l : its-reads ≡ acc.macReads g at m op (e .mask) = in-line-a h .1 ∙ at-mac r .1 in
           ⊎-elim
@@ -270,12 +270,12 @@ module _ (g : List ℕ) (at sr other : ℕ) (e : Emac) (m : List ℕ) (op : ℕ)
       in-8 : op / 0x1000 % 16 ≡ 8 → Either
       in-8 h = inl (inl h, (in-line-8 h .0, ap (missed m) (in-line-8 h .1)))
 
-  movec-line : op < 0x1_0000 → (rowOf op ≡ 24) ⊎ (rowOf op ≡ 25) → op / 0x1000 % 16 ≡ 4
+  movec-line : op < 0x1_0000 → (rowOf op ≡ movecRead) ⊎ (rowOf op ≡ movecWrite) → op / 0x1000 % 16 ≡ 4
   movec-line small (inl h) = omega (arith, movec-read op small h)
   movec-line small (inr h) = omega (arith, movec-write op small h)
 
-  mac-line : op < 0x1_0000 → rowOf op ≡ 97 → op / 0x1000 % 16 ≡ 10
-  mac-line small h = omega (arith, in-line op 97 small (lit< tt) (mac-fits op small h) .0)
+  mac-line : op < 0x1_0000 → rowOf op ≡ macRow → op / 0x1000 % 16 ≡ 10
+  mac-line small h = omega (arith, in-line op macRow small (lit< tt) (mac-fits op small h) .0)
 
   pub excused-refused : op < 0x1_0000 → Excused at m op → its-change ≡ notCarried
   excused-refused small (inl h) = in-line-8 h .0

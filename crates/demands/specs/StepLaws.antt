@@ -22,7 +22,7 @@ use Rattle.manual.specs.Change.{acting, enterAfter, enter, refused, refuse}
 use Rattle.manual.specs.Reply.{Outcome, unchanged}
 use Rattle.manual.specs.Admitted.{admitted, tooLong}
 use Rattle.manual.specs.Exceptions.{supervisor, entered, left}
-use Rattle.instructions.specs.Rows.{rowOf, placeIn}
+use Rattle.instructions.specs.Rows.{firstRow, rowOf, placeIn}
 use Rattle.instructions.specs.Line4.{line4, trap, rte}
 use Rattle.instructions.specs.Perform.{perform}
 use Rattle.instructions.specs.Step.{instruction, execute, step}
@@ -52,14 +52,14 @@ perform-return s next m = rw (applied-acting s next Return)
 
 -- ---- the words
 
-trap-rows : T (allBelow (λ n. eqb (rowOf (0x4E40 + n)) 43) 16)
+trap-rows : T (allBelow (λ n. eqb (rowOf (0x4E40 + n)) (firstRow 4 + 23)) 16)
 unfolding rowOf
 trap-rows = tt
 
-trap-row : (n : ℕ) → n < 16 → rowOf (0x4E40 + n) ≡ 43
-trap-row n h = eqb→eq _ _ (below (λ n. eqb (rowOf (0x4E40 + n)) 43) 16 trap-rows n h)
+trap-row : (n : ℕ) → n < 16 → rowOf (0x4E40 + n) ≡ firstRow 4 + 23
+trap-row n h = eqb→eq _ _ (below (λ n. eqb (rowOf (0x4E40 + n)) (firstRow 4 + 23)) 16 trap-rows n h)
 
-rte-row : rowOf 0x4E73 ≡ 22
+rte-row : rowOf 0x4E73 ≡ firstRow 4 + 2
 unfolding rowOf
 rte-row = refl
 

@@ -17,7 +17,7 @@ use Rattle.manual.specs.Change.{done, jump, notCarried}
 use Rattle.manual.specs.Reply.{numberOf, Outcome, unchanged, refusal}
 use Rattle.manual.specs.Admitted.{admitted}
 use Rattle.rows.specs.TableLaws.{allBelow, below}
-use Rattle.instructions.specs.Rows.{rowOf, placeIn}
+use Rattle.instructions.specs.Rows.{firstRow, rowOf, placeIn}
 use Rattle.instructions.specs.Line0.{bitReverse, line0}
 use Rattle.instructions.specs.Line4.{nothing, line4}
 use Rattle.instructions.specs.Perform.{perform}
@@ -30,6 +30,7 @@ use Rattle.demands.specs.Runs.{Ends, runs}
 use Rattle.demands.specs.Admits.{admits}
 use Rattle.demands.specs.Accesses.{Access, access, SomeOutside, reads0, reads4, reads, leaves, accesses}
 use Rattle.demands.specs.PartLaws.{missed, missed-some, missed-both, Made}
+use Rattle.demands.specs.BodyLaws.{movecRead, movecWrite}
 use Rattle.demands.specs.InstructionLaws.{Excused, instruction-made, excused-refused, movec-read, movec-write, mac-fits, mac-row}
 use Rattle.demands.specs.StepLaws.{doing, fetched, not-fetched, perform-refuse, Stepped, stepped}
 use Rattle.demands.specs.ReplyLaws as laws
@@ -37,11 +38,11 @@ use Rattle.demands.specs.Exact.{numbered, Ready, NotCarriedWord, line-8,
 
 -- ---- the words that are not carried
 
-read-row : (op : ℕ) → op ≡ 0x4E7A → rowOf op ≡ 24
+read-row : (op : ℕ) → op ≡ 0x4E7A → rowOf op ≡ movecRead
 unfolding rowOf
 read-row op h = rw h
 
-write-row : (op : ℕ) → op ≡ 0x4E7B → rowOf op ≡ 25
+write-row : (op : ℕ) → op ≡ 0x4E7B → rowOf op ≡ movecWrite
 unfolding rowOf
 write-row op h = rw h
 
@@ -239,16 +240,16 @@ module _ (s : Cpu) (m : List ℕ) where
 
 -- ---- the fetch alone
 
-nop-row : rowOf 0x4E71 ≡ 20
+nop-row : rowOf 0x4E71 ≡ firstRow 4
 unfolding rowOf
 nop-row = refl
 
-bitrev-rows : T (allBelow (λ r. eqb (rowOf (0x00C0 + r)) 0) 8)
+bitrev-rows : T (allBelow (λ r. eqb (rowOf (0x00C0 + r)) (firstRow 0)) 8)
 unfolding rowOf
 bitrev-rows = tt
 
-bitrev-row : (r : ℕ) → r < 8 → rowOf (0x00C0 + r) ≡ 0
-bitrev-row r h = eqb→eq _ _ (below (λ r. eqb (rowOf (0x00C0 + r)) 0) 8 bitrev-rows r h)
+bitrev-row : (r : ℕ) → r < 8 → rowOf (0x00C0 + r) ≡ firstRow 0
+bitrev-row r h = eqb→eq _ _ (below (λ r. eqb (rowOf (0x00C0 + r)) (firstRow 0)) 8 bitrev-rows r h)
 
 pub of-nop : (s : Cpu) (m : List ℕ) → numberAt m (s .pc) Word ≡ 0x4E71 → accesses s m ≡ access (s .pc) 2 ∷ []
 unfolding accesses reads reads4 instruction line4 nothing jump done placeIn

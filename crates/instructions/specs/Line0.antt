@@ -23,7 +23,7 @@ use Rattle.manual.specs.Flags.{moveCodes, keptCodes, sumCodes, compareCodes, te
 use Rattle.manual.specs.Memory.{Memory, load}
 use Rattle.manual.specs.Address.{operand, extension, moved, locate, fetch, value}
 use Rattle.manual.specs.Change.{done, reading, put, illegal}
-use Rattle.instructions.specs.Rows.{placeIn}
+use Rattle.instructions.specs.Rows.{firstRow, placeIn}
 
 -- BITREV Dx: no condition codes
 unfoldable pub bitReverse : List ℕ → ℕ → ℕ → ℕ → Change
@@ -91,7 +91,7 @@ bitByImmediate g at sr m op =
     reading (load m (plus at 2) Word) λ n.
     bitOperation g (plus at 4) sr m op n
 
--- ---- the rows of the line, from 0 on; every other word is illegal
+-- ---- the rows of the line; every other word is illegal
 
 unfoldable pub line0 : ℕ → List ℕ → ℕ → ℕ → Memory → ℕ → Change
 line0 row g at sr m op =
@@ -110,4 +110,4 @@ line0 row g at sr m op =
     bitByImmediate g at sr m op ∷
     bitByRegister g at sr m op ∷
     [])
-    (placeIn 0 row) (illegal at sr)
+    (placeIn (firstRow 0) row) (illegal at sr)

@@ -27,7 +27,7 @@ use Rattle.manual.specs.Exceptions.{supervisor}
 use Rattle.manual.specs.Memory.{Memory, load}
 use Rattle.manual.specs.Address.{operand, extension, source, moved, locate, fetch, control}
 use Rattle.manual.specs.Change.{done, store, acting, enter, enterAfter, illegal, privilege, notCarried, jump, push, reading, reaching, put}
-use Rattle.instructions.specs.Rows.{placeIn}
+use Rattle.instructions.specs.Rows.{firstRow, placeIn}
 
 -- the operand that bits 5 to 0 name
 abbrev named : ℕ → Operand
@@ -272,7 +272,7 @@ divide g at sr m op =
     (done (from .next) (moveCodes Long (q .quotient) sr) (from .moved) (quotientTo w q))
     (done (from .next) (overflowCodes sr) (from .moved) noWrite))
 
--- ---- the rows of the line, from 20 on; every other word is illegal
+-- ---- the rows of the line; every other word is illegal
 
 unfoldable pub line4 : ℕ → List ℕ → ℕ → ℕ → ℕ → Memory → ℕ → Change
 line4 row g at sr other m op =
@@ -317,4 +317,4 @@ line4 row g at sr other m op =
     test g at sr m op ∷
     lea g at sr m op ∷
     [])
-    (placeIn 20 row) (illegal at sr)
+    (placeIn (firstRow 4) row) (illegal at sr)

@@ -19,7 +19,7 @@ use Rattle.manual.specs.Conditions.{condition}
 use Rattle.manual.specs.Change.{done, jump, illegal}
 use Rattle.manual.specs.Differences.{anySize}
 use Rattle.manual.specs.Memory.{Memory}
-use Rattle.instructions.specs.Rows.{placeIn}
+use Rattle.instructions.specs.Rows.{firstRow, placeIn}
 use Rattle.instructions.specs.Line9D.{toPlace, moreOrLess}
 
 -- the number of ADDQ and SUBQ, and of a shift: bits 11 to 9, with 8 for 0
@@ -56,7 +56,7 @@ setByCondition g at sr op =
 unfoldable pub skip : ℕ → ℕ → ℕ → Change
 skip n at sr = jump sr (plus at (2 + n))
 
--- ---- the rows of the line, from 60 on
+-- ---- the rows of the line
 
 unfoldable pub line5 : ℕ → List ℕ → ℕ → ℕ → Memory → ℕ → Change
 line5 row g at sr m op =
@@ -70,4 +70,4 @@ line5 row g at sr m op =
     setByCondition g at sr op ∷
     illegal at sr ∷
     [])
-    (placeIn 60 row) (quick g at m op)
+    (placeIn (firstRow 5) row) (quick g at m op)

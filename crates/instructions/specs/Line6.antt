@@ -18,7 +18,7 @@ use Rattle.manual.specs.Word.{plus, signExtended}
 use Rattle.manual.specs.Conditions.{condition}
 use Rattle.manual.specs.Memory.{Memory, load}
 use Rattle.manual.specs.Change.{jump, push, reading}
-use Rattle.instructions.specs.Rows.{placeIn}
+use Rattle.instructions.specs.Rows.{firstRow, placeIn}
 
 -- the word's low byte is the displacement; 0 says that a word follows, and 255 that a long does
 abbrev pub extended : Got → Got
@@ -53,7 +53,7 @@ bcc at sr m op =
     reading (displacement m pc (op % 256)) λ d.
     jump sr (cond (condition (op / 256) sr) (plus pc d) (plus pc (displacementBytes (op % 256))))
 
--- ---- the rows of the line, from 69 on
+-- ---- the rows of the line
 
 unfoldable pub line6 : ℕ → List ℕ → ℕ → ℕ → Memory → ℕ → Change
-line6 row g at sr m op = getD (bra at sr m op ∷ bsr g at sr m op ∷ []) (placeIn 69 row) (bcc at sr m op)
+line6 row g at sr m op = getD (bra at sr m op ∷ bsr g at sr m op ∷ []) (placeIn (firstRow 6) row) (bcc at sr m op)

@@ -18,7 +18,7 @@ use Rattle.manual.specs.Flags.{moveCodes}
 use Rattle.manual.specs.Address.{source}
 use Rattle.manual.specs.Change.{done, reading}
 use Rattle.manual.specs.Memory.{Memory}
-use Rattle.instructions.specs.Rows.{placeIn}
+use Rattle.instructions.specs.Rows.{firstRow, placeIn}
 
 -- MOVEQ: the low byte, sign-extended
 unfoldable pub moveQuick : ℕ → ℕ → ℕ → Change
@@ -40,7 +40,7 @@ moveZero g at sr m op =
     reading (from .got) λ v.
     done (from .next) (moveCodes Long v sr) (from .moved) (writeData (op / 512) v)
 
--- ---- the rows of the line, from 72 on
+-- ---- the rows of the line
 
 unfoldable pub line7 : ℕ → List ℕ → ℕ → ℕ → Memory → ℕ → Change
-line7 row g at sr m op = getD (moveSigned g at sr m op ∷ moveZero g at sr m op ∷ []) (placeIn 72 row) (moveQuick at sr op)
+line7 row g at sr m op = getD (moveSigned g at sr m op ∷ moveZero g at sr m op ∷ []) (placeIn (firstRow 7) row) (moveQuick at sr op)

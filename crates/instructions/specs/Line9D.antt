@@ -19,7 +19,7 @@ use Rattle.manual.specs.Address.{operand, extension, source, moved, locate, fet
 use Rattle.manual.specs.Change.{done, reading, put, illegal}
 use Rattle.manual.specs.Differences.{anySize}
 use Rattle.manual.specs.Memory.{Memory}
-use Rattle.instructions.specs.Rows.{placeIn}
+use Rattle.instructions.specs.Rows.{firstRow, placeIn}
 
 -- ADD <ea>,Dn and SUB <ea>,Dn
 unfoldable pub toData : Bool → List ℕ → ℕ → Memory → ℕ → Change
@@ -64,7 +64,7 @@ withX add g at sr op =
     let r : Sum = sumOrDifference add z (dataOf g op) old (flagX sr) in
     done (plus at 2) (extendedCodes sr r) noWrite (writeData (op / 512) (merged z old (r .value)))
 
--- ---- the rows of the lines, from 76 and 107 on
+-- ---- the rows of the lines
 
 unfoldable pub sums : ℕ → Bool → ℕ → List ℕ → ℕ → ℕ → Memory → ℕ → Change
 sums first add row g at sr m op =
@@ -82,7 +82,7 @@ sums first add row g at sr m op =
     (placeIn first row) (toMemory add g at m op)
 
 abbrev pub line9 : ℕ → List ℕ → ℕ → ℕ → List ℕ → ℕ → Change
-line9 = sums 76 false
+line9 = sums (firstRow 9) false
 
 abbrev pub lineD : ℕ → List ℕ → ℕ → ℕ → List ℕ → ℕ → Change
-lineD = sums 107 true
+lineD = sums (firstRow 0xD) true

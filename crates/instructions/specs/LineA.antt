@@ -25,7 +25,7 @@ use Rattle.manual.specs.Memory.{Memory, load}
 use Rattle.manual.specs.Address.{operand, extension, source, moved, locate}
 use Rattle.manual.specs.Change.{done, acting, enter, enterAfter, notCarried, reading, put}
 use Rattle.manual.specs.Emac.{has, modeOf, accOf, readAcc, readExt}
-use Rattle.instructions.specs.Rows.{placeIn}
+use Rattle.instructions.specs.Rows.{firstRow, placeIn}
 
 -- MOVE MACSR,CCR: N, Z and V; X and C are cleared
 unfoldable pub macsrToCcr : ℕ → ℕ → Change
@@ -141,7 +141,7 @@ mac g at sr mask m op =
     (cond (eqb (w / 0x800 % 2) 0) notCarried (macRegisters g at sr op w))
     (macWithLoad g at sr mask m op w)
 
--- ---- the rows of the line, from 86 on
+-- ---- the rows of the line
 
 unfoldable pub lineA : ℕ → List ℕ → ℕ → ℕ → Emac → Memory → ℕ → Change
 lineA row g at sr e m op =
@@ -159,4 +159,4 @@ lineA row g at sr e m op =
     moveThree g at sr m op ∷
     mac g at sr (e .mask) m op ∷
     [])
-    (placeIn 86 row) (unassigned g at sr m op)
+    (placeIn (firstRow 0xA) row) (unassigned g at sr m op)

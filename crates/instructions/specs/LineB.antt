@@ -22,7 +22,7 @@ use Rattle.manual.specs.Address.{operand, extension, source, moved, locate, fet
 use Rattle.manual.specs.Change.{done, reading, put}
 use Rattle.manual.specs.Differences.{anySize}
 use Rattle.manual.specs.Memory.{Memory}
-use Rattle.instructions.specs.Rows.{placeIn}
+use Rattle.instructions.specs.Rows.{firstRow, placeIn}
 
 -- CMP <ea>,Dn
 unfoldable pub compareData : List ℕ → ℕ → ℕ → Memory → ℕ → Change
@@ -52,10 +52,10 @@ logicToPlace l g at sr m op =
     let r : ℕ = logic l v (dataOf g (op / 512)) in
     put g (plus pc (extension target z)) (moveCodes z r sr) (moved g target z) noWrite place z r
 
--- ---- the rows of the line, from 99 on
+-- ---- the rows of the line
 
 unfoldable pub lineB : ℕ → List ℕ → ℕ → ℕ → Memory → ℕ → Change
 lineB row g at sr m op =
     getD
     (compareAddress Word g at sr m op ∷ compareAddress Long g at sr m op ∷ compareData g at sr m op ∷ [])
-    (placeIn 99 row) (logicToPlace Eor g at sr m op)
+    (placeIn (firstRow 0xB) row) (logicToPlace Eor g at sr m op)

@@ -23,7 +23,7 @@ use Rattle.manual.specs.Address.{source}
 use Rattle.manual.specs.Change.{done, reading}
 use Rattle.manual.specs.Differences.{anySize}
 use Rattle.manual.specs.Memory.{Memory}
-use Rattle.instructions.specs.Rows.{placeIn}
+use Rattle.instructions.specs.Rows.{firstRow, placeIn}
 use Rattle.instructions.specs.LineB.{logicToPlace}
 
 -- AND <ea>,Dn
@@ -47,10 +47,10 @@ multiplyWords signs g at sr m op =
     let r : ℕ = product signs (dataOf g (op / 512)) v in
     done (from .next) (moveCodes Long r sr) (from .moved) (writeData (op / 512) r)
 
--- ---- the rows of the line, from 103 on
+-- ---- the rows of the line
 
 unfoldable pub lineC : ℕ → List ℕ → ℕ → ℕ → Memory → ℕ → Change
 lineC row g at sr m op =
     getD
     (multiplyWords false g at sr m op ∷ multiplyWords true g at sr m op ∷ logicToData And g at sr m op ∷ [])
-    (placeIn 103 row) (logicToPlace And g at sr m op)
+    (placeIn (firstRow 0xC) row) (logicToPlace And g at sr m op)

@@ -17,7 +17,7 @@ use Rattle.manual.specs.Word.{plus}
 use Rattle.manual.specs.Registers.{dataOf, noWrite, writeData}
 use Rattle.manual.specs.Shift.{shiftedLeft, shiftedRight, signedShiftedRight, shiftCodes}
 use Rattle.manual.specs.Change.{done, illegal}
-use Rattle.instructions.specs.Rows.{placeIn}
+use Rattle.instructions.specs.Rows.{firstRow, placeIn}
 use Rattle.instructions.specs.Line5.{quickNumber}
 
 -- how far: Dn modulo 64 where bit 5 says so, or 1 to 8
@@ -35,7 +35,7 @@ shift signs g at sr op =
     let s : Shifted = shifted signs op (dataOf g op) n in
     done (plus at 2) (shiftCodes sr n s) noWrite (writeData op (s .value))
 
--- ---- the rows of the line, from 117 on; every other word is illegal
+-- ---- the rows of the line; every other word is illegal
 
 unfoldable pub lineE : ℕ → List ℕ → ℕ → ℕ → ℕ → Change
-lineE row g at sr op = getD (shift true g at sr op ∷ shift false g at sr op ∷ []) (placeIn 117 row) (illegal at sr)
+lineE row g at sr op = getD (shift true g at sr op ∷ shift false g at sr op ∷ []) (placeIn (firstRow 0xE) row) (illegal at sr)

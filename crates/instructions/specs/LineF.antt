@@ -23,7 +23,7 @@ use Rattle.manual.specs.Exceptions.{supervisor}
 use Rattle.manual.specs.Address.{operand, extension, moved, locate, control}
 use Rattle.manual.specs.Change.{done, enter, privilege, jump, refused, locating}
 use Rattle.manual.specs.Memory.{Memory}
-use Rattle.instructions.specs.Rows.{placeIn}
+use Rattle.instructions.specs.Rows.{firstRow, placeIn}
 
 -- 9. WDEBUG is not privileged, takes every mode, and skips its second word unread. The manual: privileged, modes 2 and 5
 abbrev pub debugEnds : ℕ → ℕ → Reached → ℕ → ℕ → Change
@@ -49,10 +49,10 @@ writeDebugData g at sr m op =
     let pc : ℕ = plus at 2 in
     locating (locate g m pc target z) (done (plus pc (extension target z)) (keptCodes sr) (moved g target z) noWrite)
 
--- ---- the rows of the line, from 120 on; every other word enters vector 11
+-- ---- the rows of the line; every other word enters vector 11
 
 unfoldable pub lineF : ℕ → List ℕ → ℕ → ℕ → Memory → ℕ → Change
 lineF row g at sr m op =
     getD
     (writeDebug g at sr m op ∷ cacheLine at sr ∷ writeDebugData g at sr m op ∷ [])
-    (placeIn 120 row) (enter sr 11 at)
+    (placeIn (firstRow 0xF) row) (enter sr 11 at)

@@ -18,7 +18,7 @@ use Rattle.manual.specs.Flags.{moveCodes, keptCodes}
 use Rattle.manual.specs.Address.{operand, extension, source, moved, locate}
 use Rattle.manual.specs.Change.{done, reading, put}
 use Rattle.manual.specs.Memory.{Memory}
-use Rattle.instructions.specs.Rows.{placeIn}
+use Rattle.instructions.specs.Rows.{firstRow, placeIn}
 
 -- the destination of a MOVE, with its extension words at pc and the registers after the source's move
 unfoldable pub moveTo : Size → List ℕ → ℕ → Memory → ℕ → Write → Operand → ℕ → Change
@@ -42,13 +42,13 @@ moveAddress z g at sr m op =
     reading (from .got) λ v.
     done (from .next) (keptCodes sr) (from .moved) (writeAddress (op / 512) (signExtended z v))
 
--- ---- the rows of the lines, from 14, 16 and 18 on
+-- ---- the rows of the lines
 
 unfoldable pub line1 : ℕ → List ℕ → ℕ → ℕ → Memory → ℕ → Change
-line1 row g at sr m op = getD (moveAddress Byte g at sr m op ∷ []) (placeIn 14 row) (move Byte g at sr m op)
+line1 row g at sr m op = getD (moveAddress Byte g at sr m op ∷ []) (placeIn (firstRow 1) row) (move Byte g at sr m op)
 
 unfoldable pub line2 : ℕ → List ℕ → ℕ → ℕ → Memory → ℕ → Change
-line2 row g at sr m op = getD (moveAddress Long g at sr m op ∷ []) (placeIn 16 row) (move Long g at sr m op)
+line2 row g at sr m op = getD (moveAddress Long g at sr m op ∷ []) (placeIn (firstRow 2) row) (move Long g at sr m op)
 
 unfoldable pub line3 : ℕ → List ℕ → ℕ → ℕ → Memory → ℕ → Change
-line3 row g at sr m op = getD (moveAddress Word g at sr m op ∷ []) (placeIn 18 row) (move Word g at sr m op)
+line3 row g at sr m op = getD (moveAddress Word g at sr m op ∷ []) (placeIn (firstRow 3) row) (move Word g at sr m op)

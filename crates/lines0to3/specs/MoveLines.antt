@@ -12,14 +12,14 @@ use Rattle.manual.specs.declared.Size.{Size}
 use Rattle.manual.specs.declared.Size.the-variants.{Byte, Word, Long}
 use Rattle.manual.specs.declared.Change.{Change}
 use Rattle.manual.specs.Memory.{Memory}
-use Rattle.instructions.specs.Rows.{placeIn}
+use Rattle.instructions.specs.Rows.{rowCount, firstRow, placeIn}
 use Rattle.instructions.specs.Moves.{move, moveAddress, line1, line2, line3}
 
 unfoldable pub moveSize : ℕ → Size
 moveSize line = cond (eqb line 1) Byte (cond (eqb line 2) Long Word)
 
 unfoldable pub moveaRow : ℕ → ℕ
-moveaRow line = cond (eqb line 1) 14 (cond (eqb line 2) 16 18)
+moveaRow line = cond (eqb line 1) (firstRow 1) (cond (eqb line 2) (firstRow 2) (firstRow 3))
 
 unfoldable pub moveLine : ℕ → ℕ → List ℕ → ℕ → ℕ → Memory → ℕ → Change
 moveLine line row g at sr m op = cond (eqb line 1) (line1 row g at sr m op) (cond (eqb line 2) (line2 row g at sr m op) (line3 row g at sr m op))
@@ -29,7 +29,7 @@ by-first : (first row : ℕ) (x y : Change) → cond (eqb row first) x y ≡ get
 unfolding placeIn
 by-first first row x y = go (decLt row first) (decLt first row)
   where
-    go : Dec (row < first) → Dec (first < row) → cond (eqb row first) x y ≡ getD (x ∷ []) (cond (ltb row first) 124 (row - first)) y
+    go : Dec (row < first) → Dec (first < row) → cond (eqb row first) x y ≡ getD (x ∷ []) (cond (ltb row first) rowCount (row - first)) y
     go (yes l) d = rw (ne-eqb row first (λ e. omega (arith, e, l)), lt-ltb row first l) refl
     go (no n) (yes l) =
         let past : 1 ≤ row - first = omega arith in
@@ -42,12 +42,12 @@ by-first first row x y = go (decLt row first) (decLt first row)
 module _ (row : ℕ) (g : List ℕ) (at sr : ℕ) (m : Memory) (op : ℕ) where
   by-size : (b c : Bool)
       → let z : Size = cond b Byte (cond c Long Word) in
-      cond (eqb row (cond b 14 (cond c 16 18))) (moveAddress z g at sr m op) (move z g at sr m op)
+      cond (eqb row (cond b (firstRow 1) (cond c (firstRow 2) (firstRow 3)))) (moveAddress z g at sr m op) (move z g at sr m op)
       ≡ cond b (line1 row g at sr m op) (cond c (line2 row g at sr m op) (line3 row g at sr m op))
   unfolding line1 line2 line3
-  by-size true c = by-first 14 row _ _
-  by-size false true = by-first 16 row _ _
-  by-size false false = by-first 18 row _ _
+  by-size true c = by-first (firstRow 1) row _ _
+  by-size false true = by-first (firstRow 2) row _ _
+  by-size false false = by-first (firstRow 3) row _ _
 
   -- what the code does of it: z and r are the size and MOVEA's row that it finds
   pub as-one : (line : ℕ) (z : Size) (r : ℕ) → z ≡ moveSize line → r ≡ moveaRow line

@@ -16,7 +16,11 @@ ghost use Rattle.instructions.specs.Line9D.{sums as sumsOf, line9 as line9Of, l
 fn place_in(first: u8, row: u8) -> u8
     ensures { λ r. ⌜ r ≡ placeIn first row ⌝ }
 {
-    if row < first { 124 } else { row - first }
+    if row < first {
+        rows::ROW_COUNT
+    } else {
+        row - first
+    }
 }
 
 // Both lines by their rows: with X, three that are illegal, to An, to Dn, to memory.

@@ -5,11 +5,12 @@ use lib.Dec.{eqb}
 use Rattle.manual.specs.declared.Size.{Size}
 use Rattle.manual.specs.declared.Size.the-variants.{Byte, Word}
 use Rattle.manual.specs.Word.{sizeOf}
+use Rattle.instructions.specs.Rows.{rowOf}
 
 unfoldable pub partOf : ℕ → ℕ → Size
 partOf row op =
-    cond (eqb row 15) Byte
-    (cond (eqb row 57) (sizeOf (op / 64))
-    (cond (eqb row 72) (sizeOf (op / 64 % 2))
-    (cond (eqb row 73) (sizeOf (op / 64 % 2))
+    cond (eqb row (rowOf 0x1000)) Byte  -- MOVE_B
+    (cond (eqb row (rowOf 0x4A00)) (sizeOf (op / 64))  -- TST
+    (cond (eqb row (rowOf 0x7100)) (sizeOf (op / 64 % 2))  -- MVS
+    (cond (eqb row (rowOf 0x7180)) (sizeOf (op / 64 % 2))  -- MVZ
     Word)))

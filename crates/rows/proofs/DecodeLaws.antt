@@ -1,16 +1,17 @@
 -- How a decoder finds a word's row: it is the row that fits where no row before it that could fit beside it does, and it is past
 -- those that do not fit. Assumes nothing.
-use mathlib.Core.Path.{_≡_, sym, ap, _∙_, subst}
-use mathlib.Core.Bool.{Bool, true, false}
+use mathlib.Core.Path.{_≡_, refl, sym, ap, _∙_, subst}
+use mathlib.Core.Bool.{Bool, true, false, not}
 use Prim.Native.Nat.{ℕ, zero, suc, _+_, _-_, _/_, _%_, _≤_, _<_}
 use native.Mathlib.Omega.{arith}
 use native.Mathlib.Decide.{decLt}
+use native.Mathlib.Nat.{add-zero}
 use borrow.Author.Tests.{eq-eqb}
 use lib.Bits.{bitAnd, and-shr, and-mod, and-mask}
-use lib.Dec.{eqb}
-use Rattle.instructions.specs.Rows.{value, mask, Fits, rowOf}
-use Rattle.rows.specs.TableLaws.{agree}
-use Rattle.rows.specs.RowLaws.{firstOf, Within, rowOf-fits, rowOf-first, rowOf-in-line}
+use lib.Dec.{T, eqb}
+use Rattle.instructions.specs.Rows.{firstRow, value, mask, Fits, rowOf}
+use Rattle.rows.specs.TableLaws.{agree, allBelow, keep}
+use Rattle.rows.specs.RowLaws.{Within, rowOf-fits, rowOf-first, rowOf-in-line}
 
 -- the two rows can fit one word
 abbrev beside : ℕ → ℕ → Bool
@@ -24,6 +25,10 @@ Also false A B = B
 abbrev pub Clear : ℕ → ℕ → ℕ → ℕ → Type 0
 Clear w k n zero = Unit {0}
 Clear w k n (suc d) = Also (beside n k) (Fits w n → ⊥) (Clear w k (suc n) d)
+
+-- where one row can fit beside it: that one does not
+pub unless : {A : Type 0} → A → A × Unit {0}
+unless a = (a, tt)
 
 head : (b : Bool) (A B : Type 0) → b ≡ true → Also b A B → A
 head true A B e p = p .0
@@ -49,12 +54,13 @@ clear-at w k n (suc d) q c h l f g =
         head (beside n k) (Fits w n → ⊥) (Clear w k (suc n) d)
         (eq-eqb _ _ (agree w (value n) (mask n) (value k) (mask k) f' g)) c f'
 
-pub taken : {n e w : ℕ} (k : ℕ) → Within n e w → Fits w k → Clear w k n (k - n) → k ≡ rowOf w
-taken {n} {e} {w} k h f c = go (decLt k (rowOf w)) (decLt (rowOf w) k)
+pub taken : {line n w k : ℕ} → Within line n w → Fits w k → Clear w k (firstRow line + n) (k - (firstRow line + n)) → k ≡ rowOf w
+taken {line} {n} {w} {k} h f c = go (decLt k (rowOf w)) (decLt (rowOf w) k)
   where
     go : Dec (k < rowOf w) → Dec (rowOf w < k) → k ≡ rowOf w
     go (yes l) d = absurd (rowOf-first w k (h .word) l f)
-    go (no l) (yes m) = absurd (clear-at w k n (k - n) (rowOf w) c (h .low) (omega arith) (rowOf-fits w (h .word)) f)
+    go (no l) (yes m) =
+        absurd (clear-at w k (firstRow line + n) (k - (firstRow line + n)) (rowOf w) c (h .low) (omega arith) (rowOf-fits w (h .word)) f)
     go (no l) (no m) = omega arith
 
 -- none of the d rows from n on fits the word
@@ -62,46 +68,54 @@ abbrev pub None : ℕ → ℕ → ℕ → Type 0
 None w n zero = Unit {0}
 None w n (suc d) = None w n d × (Fits w (n + d) → ⊥)
 
-pub past : {n e w : ℕ} (d : ℕ) → Within n e w → None w n d → Within (n + d) e w
-past {n} {e} {w} zero h c = record { word = h .word; low = omega arith; high = h .high }
-past {n} {e} {w} (suc d) h c = let b = past d h (c .0) in go b (decLt (n + d) (rowOf w))
+pub past : {line n w : ℕ} (d : ℕ) → Within line n w → None w (firstRow line + n) d → Within line (n + d) w
+past {line} {n} {w} zero h c = record { word = h .word; low = omega arith; high = h .high }
+past {line} {n} {w} (suc d) h c = let b = past d h (c .0) in go b (decLt (firstRow line + n + d) (rowOf w))
   where
-    go : Within (n + d) e w → Dec (n + d < rowOf w) → Within (n + suc d) e w
+    go : Within line (n + d) w → Dec (firstRow line + n + d < rowOf w) → Within line (n + suc d) w
     go b (yes l) = record { word = h .word; low = omega arith; high = h .high }
     go b (no l) =
-        let q : rowOf w ≡ n + d = omega arith in
+        let q : rowOf w ≡ firstRow line + n + d = omega arith in
         absurd (c .1 (subst (λ (x : ℕ). Fits w x) q (rowOf-fits w (h .word))))
 
--- one row is left
-pub only : {n w : ℕ} → Within n (suc n) w → n ≡ rowOf w
-only h = omega arith
+-- one row of the line is left
+pub only : {line n w : ℕ} → Within line n w → firstRow (line + 1) ≡ suc (firstRow line + n) → firstRow line + n ≡ rowOf w
+only h e = omega arith
 
 -- ---- ADDQ and SUBQ of a long to Dn: bits 7 to 3 are 10000
 
 middle : (w m v : ℕ) → bitAnd w m ≡ v → bitAnd (w / 8 % 32) (m / 8 % 32) ≡ v / 8 % 32
 middle w m v f = sym (and-mod (w / 8) (m / 8) 5) ∙ ap (λ (x : ℕ). x % 32) (sym (and-shr w m 3)) ∙ ap (λ (x : ℕ). x / 8 % 32) f
 
-apart : (w q : ℕ) → bitAnd w 0xF0F8 ≡ 0x5080 → (bitAnd 16 (mask q / 8 % 32) ≡ value q / 8 % 32 → ⊥) → Fits w q → ⊥
-apart w q f h g =
+-- row q can fit a word that has them
+abbrev ofLong : ℕ → Bool
+ofLong q = eqb (bitAnd 16 (mask q / 8 % 32)) (value q / 8 % 32)
+
+apart : (w q : ℕ) → bitAnd w 0xF0F8 ≡ 0x5080 → T (not (ofLong q)) → Fits w q → ⊥
+apart w q f t g =
     let k : 16 ≡ w / 8 % 32 % 32 = sym (middle w 0xF0F8 0x5080 f) ∙ and-mask (w / 8 % 32) 5 in
     let e : 16 ≡ w / 8 % 32 = omega arith in
-    h (ap (λ (x : ℕ). bitAnd x (mask q / 8 % 32)) e ∙ middle w (mask q) (value q) g)
+    let h : ofLong q ≡ true = eq-eqb _ _ (ap (λ (x : ℕ). bitAnd x (mask q / 8 % 32)) e ∙ middle w (mask q) (value q) g) in
+    subst (λ (x : Bool). T (not x)) h t
 
-pub long-addq : {w : ℕ} → Within 60 69 w → bitAnd w 0xF0F8 ≡ 0x5080 → 68 ≡ rowOf w
-long-addq {w} h f =
-    only
-    (past 8 h
-    ((((((((tt, apart w 60 f (λ e. omega arith)), apart w 61 f (λ e. omega arith)), apart w 62 f (λ e. omega arith)), apart w 63 f (λ e. omega arith)), apart w 64 f (λ e. omega arith)), apart w 65 f (λ e. omega arith)), apart w 66 f (λ e. omega arith)), apart w 67 f (λ e. omega arith)))
+none-of : (w n d : ℕ) → bitAnd w 0xF0F8 ≡ 0x5080 → T (allBelow (λ q. not (ofLong (n + q))) d) → None w n d
+none-of w n zero f t = tt
+none-of w n (suc d) f t =
+    let k = keep (not (ofLong (n + d))) (allBelow (λ q. not (ofLong (n + q))) d) t in
+    (none-of w n d f (k .1), apart w (n + d) f (k .0))
+
+pub long-addq : {w : ℕ} → Within 5 0 w → bitAnd w 0xF0F8 ≡ 0x5080 → firstRow 5 + 8 ≡ rowOf w
+long-addq {w} h f = only (past 8 h (none-of w (firstRow 5) 8 f tt)) refl
 
 -- ---- the word's line, by its four top bits
 
-pub start : (line w : ℕ) → w < 0x1_0000 → w / 0x1000 ≡ line → Within (firstOf line) (firstOf (line + 1)) w
+pub start : (line w : ℕ) → w < 0x1_0000 → w / 0x1000 ≡ line → Within line 0 w
 start line w h e =
     let p = rowOf-in-line w h in
     record {
       word = h;
-      low = subst (λ (x : ℕ). firstOf x ≤ rowOf w) e (p .0);
-      high = subst (λ (x : ℕ). rowOf w < firstOf (x + 1)) e (p .1);
+      low = rw add-zero (subst (λ (x : ℕ). firstRow x ≤ rowOf w) e (p .0));
+      high = subst (λ (x : ℕ). rowOf w < firstRow (x + 1)) e (p .1);
     }
 
 -- none of the numbers below n, so at least n

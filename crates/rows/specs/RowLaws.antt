@@ -12,17 +12,9 @@ use lib.Bits.{bitAnd, and-shr, and-mask}
 use lib.Dec.{T, eqb, ltb, leb, eqb→eq, ltb→lt, leb→le}
 use lib.ListN.{getD, drop, List·getD-eq-default}
 use Rattle.manual.specs.declared.Emac.{Emac}
-use Rattle.instructions.specs.Rows.{values, masks, value, mask, fixedBits, rowCount, Fits, IsRow, firstFit, rowOf}
+use Rattle.instructions.specs.Rows.{values, masks, value, mask, fixedBits, rowCount, firstRow, Fits, IsRow, firstFit, rowOf}
 use Rattle.instructions.specs.Step.{instruction, ofRow}
 use Rattle.rows.specs.TableLaws.{allBelow, keep, below, allApart, nested, found, unfit, someWhole, some-later, some-fits}
-
--- the first row of each line, the four top bits of a word; past the last line, past the last row
-abbrev firstRows : List ℕ
-firstRows =
-    0 ∷ 14 ∷ 16 ∷ 18 ∷ 20 ∷ 60 ∷ 69 ∷ 72 ∷ 75 ∷ 76 ∷ 86 ∷ 99 ∷ 103 ∷ 107 ∷ 117 ∷ 120 ∷ []
-
-abbrev pub firstOf : ℕ → ℕ
-firstOf line = getD firstRows line rowCount
 
 -- ---- the tests, each computed once over the table
 
@@ -34,7 +26,7 @@ abbrev covers : ℕ → List ℕ → List ℕ → Bool
 covers h vs ms = allBelow (λ b. someWhole (h + b) vs ms) 64
 
 lineCovered : ℕ → Bool
-lineCovered line = covers (line * 64) (drop (firstOf line) values) (drop (firstOf line) masks)
+lineCovered line = covers (line * 64) (drop (firstRow line) values) (drop (firstRow line) masks)
 
 covered : T (allBelow lineCovered 16)
 unfolding lineCovered
@@ -45,26 +37,26 @@ inPlace : ℕ → Bool
 inPlace r =
     elim (eqb (mask r / 0x1000) 15) [
       | true ↦
-          elim (leb (firstOf (value r / 0x1000)) r) [ true ↦ ltb r (firstOf (value r / 0x1000 + 1)) | false ↦ false ]
+          elim (leb (firstRow (value r / 0x1000)) r) [ true ↦ ltb r (firstRow (value r / 0x1000 + 1)) | false ↦ false ]
       | false ↦ false
     ]
 
-placed : T (allBelow inPlace 124)
+placed : T (allBelow inPlace rowCount)
 unfolding inPlace
 placed = tt
 
 -- a row that stands among a line's rows has the line's four bits
 alone : ℕ → ℕ → Bool
 alone r line =
-    elim (leb (firstOf line) r) [
-      | true ↦ elim (ltb r (firstOf (line + 1))) [ true ↦ eqb (value r / 0x1000) line | false ↦ true ]
+    elim (leb (firstRow line) r) [
+      | true ↦ elim (ltb r (firstRow (line + 1))) [ true ↦ eqb (value r / 0x1000) line | false ↦ true ]
       | false ↦ true
     ]
 
 lined : ℕ → Bool
 lined r = allBelow (alone r) 16
 
-all-lined : T (allBelow lined 124)
+all-lined : T (allBelow lined rowCount)
 unfolding lined alone
 all-lined = tt
 
@@ -79,15 +71,15 @@ pub rowOf-mod : (w : ℕ) → rowOf (w % 0x1_0000) ≡ rowOf w
 unfolding rowOf
 rowOf-mod w = ap (λ (x : ℕ). firstFit x values masks) (mod-mod w 0x1_0000)
 
-first-lt : (w : ℕ) → w < 0x1_0000 → firstFit w values masks < 124
+first-lt : (w : ℕ) → w < 0x1_0000 → firstFit w values masks < rowCount
 unfolding lineCovered
 first-lt w h =
     let line = w / 0x1000 in
     let e : line * 64 + w / 64 % 64 ≡ w / 64 = omega arith in
-    let t = below (λ b. someWhole (line * 64 + b) (drop (firstOf line) values) (drop (firstOf line) masks)) 64 (below lineCovered 16 covered line (omega arith)) (w / 64 % 64) (omega arith) in
+    let t = below (λ b. someWhole (line * 64 + b) (drop (firstRow line) values) (drop (firstRow line) masks)) 64 (below lineCovered 16 covered line (omega arith)) (w / 64 % 64) (omega arith) in
     some-fits w values masks
-    (some-later (w / 64) (firstOf line) values masks
-    (subst (λ (x : ℕ). T (someWhole x (drop (firstOf line) values) (drop (firstOf line) masks))) e t))
+    (some-later (w / 64) (firstRow line) values masks
+    (subst (λ (x : ℕ). T (someWhole x (drop (firstRow line) values) (drop (firstRow line) masks))) e t))
 
 -- every word has a row
 pub rowOf-lt : (w : ℕ) → rowOf w < rowCount
@@ -96,7 +88,7 @@ rowOf-lt w = first-lt (w % 0x1_0000) (mod-lt w (zero-lt-suc _))
 
 -- it fits
 pub rowOf-fits : (w : ℕ) → w < 0x1_0000 → Fits w (rowOf w)
-rowOf-fits w h = rw (rowOf-low w h) (found w values masks (first-lt w h) (le-refl 124))
+rowOf-fits w h = rw (rowOf-low w h) (found w values masks (first-lt w h) (le-refl rowCount))
 
 -- no row before it does
 pub rowOf-first : (w k : ℕ) → w < 0x1_0000 → k < rowOf w → Fits w k → ⊥
@@ -134,25 +126,25 @@ unique w r s a b = go (decLt r s) (decLt s r)
 
 -- a row that fits has the word's four top bits, and stands among its line's rows
 pub in-line : (w r : ℕ) → w < 0x1_0000 → r < rowCount → Fits w r
-    → (value r / 0x1000 ≡ w / 0x1000) × ((firstOf (w / 0x1000) ≤ r) × (r < firstOf (w / 0x1000 + 1)))
+    → (value r / 0x1000 ≡ w / 0x1000) × ((firstRow (w / 0x1000) ≤ r) × (r < firstRow (w / 0x1000 + 1)))
 unfolding inPlace
 in-line w r h l f =
     let v = value r / 0x1000 in
-    let a = keep (eqb (mask r / 0x1000) 15) (elim (leb (firstOf v) r) [ true ↦ ltb r (firstOf (v + 1)) | false ↦ false ]) (below inPlace 124 placed r l) in
-    let b = keep (leb (firstOf v) r) (ltb r (firstOf (v + 1))) (a .1) in
+    let a = keep (eqb (mask r / 0x1000) 15) (elim (leb (firstRow v) r) [ true ↦ ltb r (firstRow (v + 1)) | false ↦ false ]) (below inPlace rowCount placed r l) in
+    let b = keep (leb (firstRow v) r) (ltb r (firstRow (v + 1))) (a .1) in
     let m : mask r / 0x1000 ≡ 15 = eqb→eq (mask r / 0x1000) 15 (a .0) in
     let e : v ≡ w / 0x1000 =
     sym (ap (λ (x : ℕ). x / 0x1000) f) ∙ and-shr w (mask r) 12 ∙ ap (bitAnd (w / 0x1000)) m ∙ and-mask (w / 0x1000) 4
     ∙ mod-eq-of-lt (omega arith) in (
       e,
       (
-        subst (λ (x : ℕ). firstOf x ≤ r) e (leb→le (firstOf v) r (b .0)),
-        subst (λ (x : ℕ). r < firstOf (x + 1)) e (ltb→lt r (firstOf (v + 1)) (b .1)),
+        subst (λ (x : ℕ). firstRow x ≤ r) e (leb→le (firstRow v) r (b .0)),
+        subst (λ (x : ℕ). r < firstRow (x + 1)) e (ltb→lt r (firstRow (v + 1)) (b .1)),
       ),
     )
 
 -- so the row that a word takes is one of its line's
-pub rowOf-in-line : (w : ℕ) → w < 0x1_0000 → (firstOf (w / 0x1000) ≤ rowOf w) × (rowOf w < firstOf (w / 0x1000 + 1))
+pub rowOf-in-line : (w : ℕ) → w < 0x1_0000 → (firstRow (w / 0x1000) ≤ rowOf w) × (rowOf w < firstRow (w / 0x1000 + 1))
 rowOf-in-line w h = in-line w (rowOf w) h (rowOf-lt w) (rowOf-fits w h) .1
 
 -- and has its four top bits
@@ -179,15 +171,15 @@ pub past-all : (r : ℕ) → rowCount ≤ r → 0 ≡ value r / 0x1000
 past-all r l = rw List·getD-eq-default
 
 -- which line's rows a row stands among
-pub line-at : (r line : ℕ) → r < rowCount → line < 16 → firstOf line ≤ r → r < firstOf (line + 1) → line ≡ value r / 0x1000
+pub line-at : (r line : ℕ) → r < rowCount → line < 16 → firstRow line ≤ r → r < firstRow (line + 1) → line ≡ value r / 0x1000
 unfolding lined alone
 line-at r line l k f g =
     sym
     (eqb→eq (value r / 0x1000) line
-    (where-both _ _ _ (le-leb (firstOf line) r f) (lt-ltb r (firstOf (line + 1)) g) (below (alone r) 16 (below lined 124 all-lined r l) line k)))
+    (where-both _ _ _ (le-leb (firstRow line) r f) (lt-ltb r (firstRow (line + 1)) g) (below (alone r) 16 (below lined rowCount all-lined r l) line k)))
 
--- the row of the word w is one of those from n on and below e: what a decoder knows once it has ruled out the others
-pub record Within (n e w : ℕ) : Type 0 where
+-- the row of the word w is one of a line's, and none of the line's first n: what a decoder knows once it has ruled those out
+pub record Within (line n w : ℕ) : Type 0 where
   pub word : w < 0x1_0000
-  pub low : n ≤ rowOf w
-  pub high : rowOf w < e
+  pub low : firstRow line + n ≤ rowOf w
+  pub high : rowOf w < firstRow (line + 1)

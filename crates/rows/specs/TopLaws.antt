@@ -22,13 +22,13 @@ use Rattle.rows.specs.Top.{possible, topOf, upTo, topRows, TwoRows, rowB
 ownLow : ℕ → Bool
 ownLow r = eqb (bitAnd (value r % 64) (mask r % 64)) (value r % 64)
 
-all-own : T (allBelow ownLow 124)
+all-own : T (allBelow ownLow rowCount)
 unfolding ownLow
 all-own = tt
 
 own-low : (r : ℕ) → r < rowCount → bitAnd (value r % 64) (mask r % 64) ≡ value r % 64
 unfolding ownLow
-own-low r l = eqb→eq _ _ (below ownLow 124 all-own r l)
+own-low r l = eqb→eq _ _ (below ownLow rowCount all-own r l)
 
 -- a row that fixes some of them does not fit the word that has the others of its value there
 opposed : ℕ → Bool
@@ -38,7 +38,7 @@ opposed r =
       | false ↦ elim (eqb (bitAnd (63 - value r % 64) (mask r % 64)) (value r % 64)) [ true ↦ false | false ↦ true ]
     ]
 
-all-opposed : T (allBelow opposed 124)
+all-opposed : T (allBelow opposed rowCount)
 unfolding opposed
 all-opposed = tt
 
@@ -49,7 +49,7 @@ neither false false t h = refl
 
 opposite : (r : ℕ) → r < rowCount → eqb (mask r % 64) 0 ≡ false → bitAnd (63 - value r % 64) (mask r % 64) ≡ value r % 64 → ⊥
 unfolding opposed
-opposite r l h = eqb-false _ _ (neither (eqb (mask r % 64) 0) (eqb (bitAnd (63 - value r % 64) (mask r % 64)) (value r % 64)) (below opposed 124 all-opposed r l) h)
+opposite r l h = eqb-false _ _ (neither (eqb (mask r % 64) 0) (eqb (bitAnd (63 - value r % 64) (mask r % 64)) (value r % 64)) (below opposed rowCount all-opposed r l) h)
 
 -- ---- the first row that the ten bits leave possible
 
@@ -74,7 +74,7 @@ possible-lt h l = go (decLt (rowOf (h * 64)) (possible h))
 
 possible-tens : (h : ℕ) → possible h < rowCount → bitAnd h (mask (possible h) / 64) ≡ value (possible h) / 64
 possible-tens h l =
-    let f = found h (map (λ v. v / 64) values) (map (λ m. m / 64) masks) l (le-refl 124) in
+    let f = found h (map (λ v. v / 64) values) (map (λ m. m / 64) masks) l (le-refl rowCount) in
     rw (List·getD-map (λ m. m / 64) masks (possible h) 0, List·getD-map (λ v. v / 64) values (possible h) 0) at f
 
 -- where it fits a word with these bits it is the word's row

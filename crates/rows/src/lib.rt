@@ -8,6 +8,8 @@ ghost use Rattle.instructions.specs.Rows.{rowOf};
 ghost use Rattle.rows.specs.RowLaws.{Within};
 ghost use Rattle.rows.specs.Top.{topRows, rowBy};
 
+// ---- the rows by their numbers: tools/row-table makes this part from the definition's table
+
 pub const BITREV: u8 = 0;
 
 pub const BYTEREV: u8 = 1;
@@ -256,13 +258,17 @@ pub const WDDATA: u8 = 122;
 
 pub const LINEF: u8 = 123;
 
+pub const ROW_COUNT: u8 = 124;
+
+// ---- the end of that part
+
 // What a table has in place of a row.
-pub const UNSETTLED: u8 = 124;
+pub const UNSETTLED: u8 = ROW_COUNT;
 
 // A line's function is given a word of that line. One that is named for fixed bits too, as `line_4_fff8`, is given a word that none of the
 // line's rows before those takes.
 fn line_0(w: u32) -> u8
-    requires { ⌜ Within 0 14 w ⌝ }
+    requires { ⌜ Within 0 0 w ⌝ }
     ensures { λ r. ⌜ r ≡ rowOf w ⌝ }
 {
     match w & 0xFFF8 {
@@ -282,7 +288,7 @@ fn line_0(w: u32) -> u8
 }
 
 fn line_0_ff00(w: u32) -> u8
-    requires { ⌜ Within 11 14 w ⌝ }
+    requires { ⌜ Within 0 11 w ⌝ }
     ensures { λ r. ⌜ r ≡ rowOf w ⌝ }
 {
     if w & 0xFF00 == 0x0800 {
@@ -295,7 +301,7 @@ fn line_0_ff00(w: u32) -> u8
 }
 
 fn line_1(w: u32) -> u8
-    requires { ⌜ Within 14 16 w ⌝ }
+    requires { ⌜ Within 1 0 w ⌝ }
     ensures { λ r. ⌜ r ≡ rowOf w ⌝ }
 {
     if w & 0xF1C0 == 0x1040 {
@@ -305,7 +311,7 @@ fn line_1(w: u32) -> u8
 }
 
 fn line_2(w: u32) -> u8
-    requires { ⌜ Within 16 18 w ⌝ }
+    requires { ⌜ Within 2 0 w ⌝ }
     ensures { λ r. ⌜ r ≡ rowOf w ⌝ }
 {
     if w & 0xF1C0 == 0x2040 {
@@ -315,7 +321,7 @@ fn line_2(w: u32) -> u8
 }
 
 fn line_3(w: u32) -> u8
-    requires { ⌜ Within 18 20 w ⌝ }
+    requires { ⌜ Within 3 0 w ⌝ }
     ensures { λ r. ⌜ r ≡ rowOf w ⌝ }
 {
     if w & 0xF1C0 == 0x3040 {
@@ -325,7 +331,7 @@ fn line_3(w: u32) -> u8
 }
 
 fn line_4(w: u32) -> u8
-    requires { ⌜ Within 20 60 w ⌝ }
+    requires { ⌜ Within 4 0 w ⌝ }
     ensures { λ r. ⌜ r ≡ rowOf w ⌝ }
 {
     // LEA first, for it is frequent: of the rows before it only EXTB can fit beside it.
@@ -351,7 +357,7 @@ fn line_4(w: u32) -> u8
 }
 
 fn line_4_fff8(w: u32) -> u8
-    requires { ⌜ Within 30 60 w ⌝ }
+    requires { ⌜ Within 4 10 w ⌝ }
     ensures { λ r. ⌜ r ≡ rowOf w ⌝ }
 {
     match w & 0xFFF8 {
@@ -373,7 +379,7 @@ fn line_4_fff8(w: u32) -> u8
 }
 
 fn line_4_fff0(w: u32) -> u8
-    requires { ⌜ Within 43 60 w ⌝ }
+    requires { ⌜ Within 4 23 w ⌝ }
     ensures { λ r. ⌜ r ≡ rowOf w ⌝ }
 {
     if w & 0xFFF0 == 0x4E40 {
@@ -397,7 +403,7 @@ fn line_4_fff0(w: u32) -> u8
 }
 
 fn line_4_ff00(w: u32) -> u8
-    requires { ⌜ Within 56 60 w ⌝ }
+    requires { ⌜ Within 4 36 w ⌝ }
     ensures { λ r. ⌜ r ≡ rowOf w ⌝ }
 {
     if w & 0xFF00 == 0x4200 {
@@ -413,7 +419,7 @@ fn line_4_ff00(w: u32) -> u8
 }
 
 fn line_5(w: u32) -> u8
-    requires { ⌜ Within 60 69 w ⌝ }
+    requires { ⌜ Within 5 0 w ⌝ }
     ensures { λ r. ⌜ r ≡ rowOf w ⌝ }
 {
     // A long in Dn first, for it is frequent: none of the rows before ADDQ fits it.
@@ -429,7 +435,7 @@ fn line_5(w: u32) -> u8
 }
 
 fn line_5_f0f8(w: u32) -> u8
-    requires { ⌜ Within 63 69 w ⌝ }
+    requires { ⌜ Within 5 3 w ⌝ }
     ensures { λ r. ⌜ r ≡ rowOf w ⌝ }
 {
     match w & 0xF0F8 {
@@ -442,7 +448,7 @@ fn line_5_f0f8(w: u32) -> u8
 }
 
 fn line_5_f0c0(w: u32) -> u8
-    requires { ⌜ Within 67 69 w ⌝ }
+    requires { ⌜ Within 5 7 w ⌝ }
     ensures { λ r. ⌜ r ≡ rowOf w ⌝ }
 {
     if w & 0xF0C0 == 0x50C0 {
@@ -452,7 +458,7 @@ fn line_5_f0c0(w: u32) -> u8
 }
 
 fn line_6(w: u32) -> u8
-    requires { ⌜ Within 69 72 w ⌝ }
+    requires { ⌜ Within 6 0 w ⌝ }
     ensures { λ r. ⌜ r ≡ rowOf w ⌝ }
 {
     if w & 0xFF00 == 0x6000 {
@@ -465,7 +471,7 @@ fn line_6(w: u32) -> u8
 }
 
 fn line_7(w: u32) -> u8
-    requires { ⌜ Within 72 75 w ⌝ }
+    requires { ⌜ Within 7 0 w ⌝ }
     ensures { λ r. ⌜ r ≡ rowOf w ⌝ }
 {
     if w & 0xF180 == 0x7100 {
@@ -478,14 +484,14 @@ fn line_7(w: u32) -> u8
 }
 
 fn line_8(w: u32) -> u8
-    requires { ⌜ Within 75 76 w ⌝ }
+    requires { ⌜ Within 8 0 w ⌝ }
     ensures { λ r. ⌜ r ≡ rowOf w ⌝ }
 {
     LINE8
 }
 
 fn line_9(w: u32) -> u8
-    requires { ⌜ Within 76 86 w ⌝ }
+    requires { ⌜ Within 9 0 w ⌝ }
     ensures { λ r. ⌜ r ≡ rowOf w ⌝ }
 {
     match w & 0xF1F8 {
@@ -500,7 +506,7 @@ fn line_9(w: u32) -> u8
 }
 
 fn line_9_f1c0(w: u32) -> u8
-    requires { ⌜ Within 82 86 w ⌝ }
+    requires { ⌜ Within 9 6 w ⌝ }
     ensures { λ r. ⌜ r ≡ rowOf w ⌝ }
 {
     if w & 0xF1C0 == 0x90C0 {
@@ -516,7 +522,7 @@ fn line_9_f1c0(w: u32) -> u8
 }
 
 fn line_a(w: u32) -> u8
-    requires { ⌜ Within 86 99 w ⌝ }
+    requires { ⌜ Within 0xA 0 w ⌝ }
     ensures { λ r. ⌜ r ≡ rowOf w ⌝ }
 {
     // MAC first, for it is frequent: none of the rows before it can fit beside it.
@@ -542,7 +548,7 @@ fn line_a(w: u32) -> u8
 }
 
 fn line_a_ffc0(w: u32) -> u8
-    requires { ⌜ Within 91 99 w ⌝ }
+    requires { ⌜ Within 0xA 5 w ⌝ }
     ensures { λ r. ⌜ r ≡ rowOf w ⌝ }
 {
     if w & 0xFFC0 == 0xA900 {
@@ -564,7 +570,7 @@ fn line_a_ffc0(w: u32) -> u8
 }
 
 fn line_a_f1c0(w: u32) -> u8
-    requires { ⌜ Within 96 99 w ⌝ }
+    requires { ⌜ Within 0xA 10 w ⌝ }
     ensures { λ r. ⌜ r ≡ rowOf w ⌝ }
 {
     if w & 0xF1C0 == 0xA140 {
@@ -577,7 +583,7 @@ fn line_a_f1c0(w: u32) -> u8
 }
 
 fn line_b(w: u32) -> u8
-    requires { ⌜ Within 99 103 w ⌝ }
+    requires { ⌜ Within 0xB 0 w ⌝ }
     ensures { λ r. ⌜ r ≡ rowOf w ⌝ }
 {
     if w & 0xF1C0 == 0xB0C0 {
@@ -593,7 +599,7 @@ fn line_b(w: u32) -> u8
 }
 
 fn line_c(w: u32) -> u8
-    requires { ⌜ Within 103 107 w ⌝ }
+    requires { ⌜ Within 0xC 0 w ⌝ }
     ensures { λ r. ⌜ r ≡ rowOf w ⌝ }
 {
     if w & 0xF1C0 == 0xC0C0 {
@@ -609,7 +615,7 @@ fn line_c(w: u32) -> u8
 }
 
 fn line_d(w: u32) -> u8
-    requires { ⌜ Within 107 117 w ⌝ }
+    requires { ⌜ Within 0xD 0 w ⌝ }
     ensures { λ r. ⌜ r ≡ rowOf w ⌝ }
 {
     match w & 0xF1F8 {
@@ -624,7 +630,7 @@ fn line_d(w: u32) -> u8
 }
 
 fn line_d_f1c0(w: u32) -> u8
-    requires { ⌜ Within 113 117 w ⌝ }
+    requires { ⌜ Within 0xD 6 w ⌝ }
     ensures { λ r. ⌜ r ≡ rowOf w ⌝ }
 {
     if w & 0xF1C0 == 0xD0C0 {
@@ -640,7 +646,7 @@ fn line_d_f1c0(w: u32) -> u8
 }
 
 fn line_e(w: u32) -> u8
-    requires { ⌜ Within 117 120 w ⌝ }
+    requires { ⌜ Within 0xE 0 w ⌝ }
     ensures { λ r. ⌜ r ≡ rowOf w ⌝ }
 {
     if w & 0xF0D8 == 0xE080 {
@@ -653,7 +659,7 @@ fn line_e(w: u32) -> u8
 }
 
 fn line_f(w: u32) -> u8
-    requires { ⌜ Within 120 124 w ⌝ }
+    requires { ⌜ Within 0xF 0 w ⌝ }
     ensures { λ r. ⌜ r ≡ rowOf w ⌝ }
 {
     if w & 0xFFC0 == 0xFBC0 {

@@ -7,4 +7,4 @@ line-4-ff00-requires : tie.Need-line-4-ff00-requires
 line-4-ff00-requires c κs = past 12 (past 1 (c .before .before .pre) (tt, c .before .if1 .left)) (c .match .rest)
 
 pub line-4-fff0-spec : {M : Type 1} → statement M
-line-4-fff0-spec = tie.close (tie.spec (λ c. taken 43 (c .before .pre) (c .if1 .taken) tt) line-4-ff00-requires (λ c. taken 44 (c .before .before .pre) (c .match .keys1) tt) (λ c. taken 45 (c .before .before .pre) (c .match .keys2) tt) (λ c. taken 46 (c .before .before .pre) (c .match .keys3) tt) (λ c. taken 47 (c .before .before .pre) (c .match .keys4) tt) (λ c. taken 48 (c .before .before .pre) (c .match .keys5) tt) (λ c. taken 49 (c .before .before .pre) (c .match .keys6) tt) (λ c. taken 50 (c .before .before .pre) (c .match .keys7) tt) (λ c. taken 51 (c .before .before .pre) (c .match .keys8) tt) (λ c. taken 52 (c .before .before .pre) (c .match .keys9) tt) (λ c. taken 53 (c .before .before .pre) (c .match .keys10) tt) (λ c. taken 54 (c .before .before .pre) (c .match .keys11) tt) (λ c. taken 55 (c .before .before .pre) (c .match .keys12) tt) (λ c. c .line-4-ff00 .ensures))
+line-4-fff0-spec = tie.close (tie.spec (λ c. taken (c .before .pre) (c .if1 .taken) tt) line-4-ff00-requires (λ c. taken (c .before .before .pre) (c .match .keys1) tt) (λ c. taken (c .before .before .pre) (c .match .keys2) tt) (λ c. taken (c .before .before .pre) (c .match .keys3) tt) (λ c. taken (c .before .before .pre) (c .match .keys4) tt) (λ c. taken (c .before .before .pre) (c .match .keys5) tt) (λ c. taken (c .before .before .pre) (c .match .keys6) tt) (λ c. taken (c .before .before .pre) (c .match .keys7) tt) (λ c. taken (c .before .before .pre) (c .match .keys8) tt) (λ c. taken (c .before .before .pre) (c .match .keys9) tt) (λ c. taken (c .before .before .pre) (c .match .keys10) tt) (λ c. taken (c .before .before .pre) (c .match .keys11) tt) (λ c. taken (c .before .before .pre) (c .match .keys12) tt) (λ c. c .line-4-ff00 .ensures))

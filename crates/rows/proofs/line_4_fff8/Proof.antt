@@ -7,4 +7,4 @@ line-4-fff0-requires : tie.Need-line-4-fff0-requires
 line-4-fff0-requires c κs = past 13 (c .before .pre) (c .match .rest)
 
 pub line-4-fff8-spec : {M : Type 1} → statement M
-line-4-fff8-spec = tie.close (tie.spec line-4-fff0-requires (λ c. taken 30 (c .before .pre) (c .match .keys1) tt) (λ c. taken 31 (c .before .pre) (c .match .keys2) tt) (λ c. taken 32 (c .before .pre) (c .match .keys3) tt) (λ c. taken 33 (c .before .pre) (c .match .keys4) tt) (λ c. taken 34 (c .before .pre) (c .match .keys5) tt) (λ c. taken 35 (c .before .pre) (c .match .keys6) tt) (λ c. taken 36 (c .before .pre) (c .match .keys7) tt) (λ c. taken 37 (c .before .pre) (c .match .keys8) tt) (λ c. taken 38 (c .before .pre) (c .match .keys9) tt) (λ c. taken 39 (c .before .pre) (c .match .keys10) tt) (λ c. taken 40 (c .before .pre) (c .match .keys11) tt) (λ c. taken 41 (c .before .pre) (c .match .keys12) tt) (λ c. taken 42 (c .before .pre) (c .match .keys13) tt) (λ c. c .line-4-fff0 .ensures))
+line-4-fff8-spec = tie.close (tie.spec line-4-fff0-requires (λ c. taken (c .before .pre) (c .match .keys1) tt) (λ c. taken (c .before .pre) (c .match .keys2) tt) (λ c. taken (c .before .pre) (c .match .keys3) tt) (λ c. taken (c .before .pre) (c .match .keys4) tt) (λ c. taken (c .before .pre) (c .match .keys5) tt) (λ c. taken (c .before .pre) (c .match .keys6) tt) (λ c. taken (c .before .pre) (c .match .keys7) tt) (λ c. taken (c .before .pre) (c .match .keys8) tt) (λ c. taken (c .before .pre) (c .match .keys9) tt) (λ c. taken (c .before .pre) (c .match .keys10) tt) (λ c. taken (c .before .pre) (c .match .keys11) tt) (λ c. taken (c .before .pre) (c .match .keys12) tt) (λ c. taken (c .before .pre) (c .match .keys13) tt) (λ c. c .line-4-fff0 .ensures))

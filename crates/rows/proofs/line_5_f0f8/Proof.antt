@@ -7,4 +7,4 @@ line-5-f0c0-requires : tie.Need-line-5-f0c0-requires
 line-5-f0c0-requires c κs = past 4 (c .before .pre) (c .match .rest)
 
 pub line-5-f0f8-spec : {M : Type 1} → statement M
-line-5-f0f8-spec = tie.close (tie.spec line-5-f0c0-requires (λ c. taken 63 (c .before .pre) (c .match .keys1) tt) (λ c. taken 64 (c .before .pre) (c .match .keys2) tt) (λ c. taken 65 (c .before .pre) (c .match .keys3) tt) (λ c. taken 66 (c .before .pre) (c .match .keys4) tt) (λ c. c .line-5-f0c0 .ensures))
+line-5-f0f8-spec = tie.close (tie.spec line-5-f0c0-requires (λ c. taken (c .before .pre) (c .match .keys1) tt) (λ c. taken (c .before .pre) (c .match .keys2) tt) (λ c. taken (c .before .pre) (c .match .keys3) tt) (λ c. taken (c .before .pre) (c .match .keys4) tt) (λ c. c .line-5-f0c0 .ensures))

@@ -7,4 +7,4 @@ line-a-ffc0-requires : tie.Need-line-a-ffc0-requires
 line-a-ffc0-requires c κs = past 5 (c .before .before .before .before .before .before .pre) (((((tt, c .before .before .before .before .if2 .left), c .before .before .before .if3 .left), c .before .before .if4 .left), c .before .if5 .left), c .if6 .left)
 
 pub line-a-spec : {M : Type 1} → statement M
-line-a-spec = tie.close (tie.spec (λ c. taken 97 (c .before .pre) (c .if1 .taken) tt) (λ c. taken 86 (c .before .before .pre) (c .if2 .taken) tt) (λ c. taken 87 (c .before .before .before .pre) (c .if3 .taken) tt) (λ c. taken 88 (c .before .before .before .before .pre) (c .if4 .taken) tt) (λ c. taken 89 (c .before .before .before .before .before .pre) (c .if5 .taken) tt) (λ c. taken 90 (c .before .before .before .before .before .before .pre) (c .if6 .taken) tt) line-a-ffc0-requires (λ c. c .line-a-ffc0 .ensures))
+line-a-spec = tie.close (tie.spec (λ c. taken (c .before .pre) (c .if1 .taken) tt) (λ c. taken (c .before .before .pre) (c .if2 .taken) tt) (λ c. taken (c .before .before .before .pre) (c .if3 .taken) tt) (λ c. taken (c .before .before .before .before .pre) (c .if4 .taken) tt) (λ c. taken (c .before .before .before .before .before .pre) (c .if5 .taken) tt) (λ c. taken (c .before .before .before .before .before .before .pre) (c .if6 .taken) tt) line-a-ffc0-requires (λ c. c .line-a-ffc0 .ensures))

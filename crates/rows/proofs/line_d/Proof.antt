@@ -7,4 +7,4 @@ line-d-f1c0-requires : tie.Need-line-d-f1c0-requires
 line-d-f1c0-requires c κs = past 6 (c .before .pre) (c .match .rest)
 
 pub line-d-spec : {M : Type 1} → statement M
-line-d-spec = tie.close (tie.spec line-d-f1c0-requires (λ c. taken 107 (c .before .pre) (c .match .keys1) tt) (λ c. taken 108 (c .before .pre) (c .match .keys2) tt) (λ c. taken 109 (c .before .pre) (c .match .keys3) tt) (λ c. taken 110 (c .before .pre) (c .match .keys4) tt) (λ c. taken 111 (c .before .pre) (c .match .keys5) tt) (λ c. taken 112 (c .before .pre) (c .match .keys6) tt) (λ c. c .line-d-f1c0 .ensures))
+line-d-spec = tie.close (tie.spec line-d-f1c0-requires (λ c. taken (c .before .pre) (c .match .keys1) tt) (λ c. taken (c .before .pre) (c .match .keys2) tt) (λ c. taken (c .before .pre) (c .match .keys3) tt) (λ c. taken (c .before .pre) (c .match .keys4) tt) (λ c. taken (c .before .pre) (c .match .keys5) tt) (λ c. taken (c .before .pre) (c .match .keys6) tt) (λ c. c .line-d-f1c0 .ensures))

@@ -1,10 +1,8 @@
-use Prim.Native.Nat.{ℕ, _≤_, _-_}
-use mathlib.Core.Bool.{cond}
+use Prim.Native.Nat.{ℕ, _≤_}
 use native.Mathlib.Omega.{arith}
-use lib.Dec.{ltb}
 use lib.ListN.{List·getD-eq-default}
 use Rattle.word.specs.TestLaws.{other-row}
-use Rattle.instructions.specs.Rows.{placeIn}
+use Rattle.instructions.specs.Rows.{rowCount, firstRow, placeIn}
 use Rattle.instructions.specs.Line4.{line4 as line4Of}
 use Rattle.line4.proofs.rows4.line4.Statement.{statement}
 use Rattle.line4.proofs.rows4.line4.Tie as tie
@@ -13,7 +11,7 @@ returns-40 : tie.Need-returns-40
 unfolding line4Of placeIn
 returns-40 c =
     let row : ℕ = c .before .before .before .args .row in
-    let past : 39 ≤ cond (ltb row 20) 124 (row - 20) = other-row 20 39 124 row (omega arith) (c .before .match .rest) in
+    let past : 39 ≤ placeIn (firstRow 4) row = other-row (firstRow 4) 39 rowCount row (omega arith) (c .before .match .rest) in
     rw List·getD-eq-default (c .illegal3 .ensures)
 
 pub line4-spec : {M : Type 1} → statement M

@@ -1,10 +1,8 @@
-use Prim.Native.Nat.{ℕ, _≤_, _-_}
-use mathlib.Core.Bool.{cond}
+use Prim.Native.Nat.{ℕ, _≤_}
 use native.Mathlib.Omega.{arith}
-use lib.Dec.{ltb}
 use lib.ListN.{List·getD-eq-default}
 use Rattle.word.specs.TestLaws.{other-row}
-use Rattle.instructions.specs.Rows.{placeIn}
+use Rattle.instructions.specs.Rows.{rowCount, firstRow, placeIn}
 use Rattle.instructions.specs.LineA.{lineA as lineAOf}
 use Rattle.linea.proofs.rowsa.linea.Statement.{statement}
 use Rattle.linea.proofs.rowsa.linea.Tie as tie
@@ -13,7 +11,7 @@ returns-13 : tie.Need-returns-13
 unfolding lineAOf placeIn
 returns-13 c =
     let row : ℕ = c .before .before .before .args .row in
-    let past : 12 ≤ cond (ltb row 86) 124 (row - 86) = other-row 86 12 124 row (omega arith) (c .before .match .rest) in
+    let past : 12 ≤ placeIn (firstRow 0xA) row = other-row (firstRow 0xA) 12 rowCount row (omega arith) (c .before .match .rest) in
     rw List·getD-eq-default (c .unassigned .ensures)
 
 pub linea-spec : {M : Type 1} → statement M

@@ -1,10 +1,8 @@
-use Prim.Native.Nat.{ℕ, _≤_, _-_}
-use mathlib.Core.Bool.{cond}
+use Prim.Native.Nat.{ℕ, _≤_}
 use native.Mathlib.Omega.{arith}
-use lib.Dec.{ltb}
 use lib.ListN.{List·getD-eq-default}
 use Rattle.word.specs.TestLaws.{other-row}
-use Rattle.instructions.specs.Rows.{placeIn}
+use Rattle.instructions.specs.Rows.{rowCount, firstRow, placeIn}
 use Rattle.instructions.specs.Line0.{line0 as line0Of}
 use borrow.Author.Needs.{needs}
 use Rattle.lines0to3.proofs.line0.line0.Statement.{statement}
@@ -14,7 +12,7 @@ returns-14 : tie.Need-returns-14
 unfolding line0Of placeIn
 returns-14 c =
     let row : ℕ = c .before .before .before .args .row in
-    let past : 13 ≤ cond (ltb row 0) 124 (row - 0) = other-row 0 13 124 row (omega arith) (c .before .match .rest) in
+    let past : 13 ≤ placeIn (firstRow 0) row = other-row (firstRow 0) 13 rowCount row (omega arith) (c .before .match .rest) in
     rw List·getD-eq-default (c .illegal .ensures)
 
 pub line0-spec : {M : Type 1} → statement M

@@ -1,10 +1,8 @@
-use Prim.Native.Nat.{ℕ, _≤_, _-_}
-use mathlib.Core.Bool.{cond}
+use Prim.Native.Nat.{ℕ, _≤_}
 use native.Mathlib.Omega.{arith}
-use lib.Dec.{ltb}
 use lib.ListN.{List·getD-eq-default}
 use Rattle.word.specs.TestLaws.{other-row}
-use Rattle.instructions.specs.Rows.{placeIn}
+use Rattle.instructions.specs.Rows.{rowCount, firstRow, placeIn}
 use Rattle.instructions.specs.Line5.{line5 as line5Of}
 use borrow.Author.Needs.{needs}
 use Rattle.lines5to9.proofs.line5.line5.Statement.{statement}
@@ -14,7 +12,7 @@ returns-9 : tie.Need-returns-9
 unfolding line5Of placeIn
 returns-9 c =
     let row : ℕ = c .before .before .before .args .row in
-    let past : 8 ≤ cond (ltb row 60) 124 (row - 60) = other-row 60 8 124 row (omega arith) (c .before .match .rest) in
+    let past : 8 ≤ placeIn (firstRow 5) row = other-row (firstRow 5) 8 rowCount row (omega arith) (c .before .match .rest) in
     rw List·getD-eq-default (c .quick .ensures)
 
 pub line5-spec : {M : Type 1} → statement M

@@ -1,10 +1,8 @@
-use Prim.Native.Nat.{ℕ, _≤_, _-_}
-use mathlib.Core.Bool.{cond}
-use lib.Dec.{ltb}
+use Prim.Native.Nat.{ℕ, _≤_}
 use native.Mathlib.Omega.{arith}
 use lib.ListN.{List·getD-eq-default}
 use Rattle.word.specs.TestLaws.{other-row}
-use Rattle.instructions.specs.Rows.{placeIn}
+use Rattle.instructions.specs.Rows.{rowCount, firstRow, placeIn}
 use Rattle.instructions.specs.Line6.{line6 as line6Of}
 use Rattle.lines5to9.proofs.line6.line6.Statement.{statement}
 use Rattle.lines5to9.proofs.line6.line6.Tie as tie
@@ -21,7 +19,7 @@ returns-3 : tie.Need-returns-3
 unfolding line6Of placeIn
 returns-3 c =
     let row : ℕ = c .before .before .before .args .row in
-    let past : 2 ≤ cond (ltb row 69) 124 (row - 69) = other-row 69 2 124 row (omega arith) (c .before .match .rest) in
+    let past : 2 ≤ placeIn (firstRow 6) row = other-row (firstRow 6) 2 rowCount row (omega arith) (c .before .match .rest) in
     rw List·getD-eq-default (c .bcc .ensures)
 
 pub line6-spec : {M : Type 1} → statement M

@@ -1,10 +1,8 @@
-use Prim.Native.Nat.{ℕ, _≤_, _-_}
-use mathlib.Core.Bool.{cond}
+use Prim.Native.Nat.{ℕ, _≤_}
 use native.Mathlib.Omega.{arith}
-use lib.Dec.{ltb}
 use lib.ListN.{List·getD-eq-default}
 use Rattle.word.specs.TestLaws.{other-row}
-use Rattle.instructions.specs.Rows.{placeIn}
+use Rattle.instructions.specs.Rows.{rowCount, firstRow, placeIn}
 use Rattle.instructions.specs.Line7.{line7 as line7Of}
 use Rattle.lines5to9.proofs.line7.line7.Statement.{statement}
 use Rattle.lines5to9.proofs.line7.line7.Tie as tie
@@ -21,7 +19,7 @@ returns-3 : tie.Need-returns-3
 unfolding line7Of placeIn
 returns-3 c =
     let row : ℕ = c .before .before .before .args .row in
-    let past : 2 ≤ cond (ltb row 72) 124 (row - 72) = other-row 72 2 124 row (omega arith) (c .before .match .rest) in
+    let past : 2 ≤ placeIn (firstRow 7) row = other-row (firstRow 7) 2 rowCount row (omega arith) (c .before .match .rest) in
     rw List·getD-eq-default (c .moveq .ensures)
 
 pub line7-spec : {M : Type 1} → statement M

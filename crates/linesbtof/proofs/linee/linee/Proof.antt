@@ -1,10 +1,8 @@
-use Prim.Native.Nat.{ℕ, _≤_, _-_}
-use mathlib.Core.Bool.{cond}
+use Prim.Native.Nat.{ℕ, _≤_}
 use native.Mathlib.Omega.{arith}
-use lib.Dec.{ltb}
 use lib.ListN.{List·getD-eq-default}
 use Rattle.word.specs.TestLaws.{other-row}
-use Rattle.instructions.specs.Rows.{placeIn}
+use Rattle.instructions.specs.Rows.{rowCount, firstRow, placeIn}
 use Rattle.instructions.specs.LineE.{lineE as lineEOf}
 use Rattle.linesbtof.proofs.linee.linee.Statement.{statement}
 use Rattle.linesbtof.proofs.linee.linee.Tie as tie
@@ -21,7 +19,7 @@ returns-3 : tie.Need-returns-3
 unfolding lineEOf placeIn
 returns-3 c =
     let row : ℕ = c .before .before .args .row in
-    let past : 2 ≤ cond (ltb row 117) 124 (row - 117) = other-row 117 2 124 row (omega arith) (c .before .match .rest) in
+    let past : 2 ≤ placeIn (firstRow 0xE) row = other-row (firstRow 0xE) 2 rowCount row (omega arith) (c .before .match .rest) in
     rw List·getD-eq-default (c .illegal .ensures)
 
 pub linee-spec : {M : Type 1} → statement M
