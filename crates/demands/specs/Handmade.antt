@@ -22,6 +22,7 @@ use Rattle.manual.specs.Admitted as admitted
 use Rattle.manual.specs.Change as change
 use Rattle.manual.specs.Exceptions as exceptions
 use Rattle.instructions.specs.Rows.{value, mask, rowOf, placeIn}
+use Rattle.manual.specs.Block.{fresh}
 use Rattle.instructions.specs.Line0 as l0
 use Rattle.instructions.specs.Line4 as l4
 use Rattle.instructions.specs.Line9D as l9
@@ -62,16 +63,8 @@ program (w ∷ ws) = (w / 0x100) ∷ (w % 0x100) ∷ program ws
 
 -- a state with these D0, D1 and D2, status register and MACSR, and the rest 0
 abbrev state : ℕ → ℕ → ℕ → ℕ → ℕ → Cpu
-state d0 d1 d2 sr macsr = record {
-  r = d0 ∷ d1 ∷ d2 ∷ replicate 13 0;
-  pc = 0;
-  sr = sr;
-  other = 0;
-  vbr = 0;
-  cacr = 0;
-  emac = record { macsr = macsr; mask = 0; acc = replicate 4 0 };
-  stopped = false;
-}
+state d0 d1 d2 sr macsr =
+    registers.withAll (d0 ∷ d1 ∷ d2 ∷ replicate 13 0) 0 sr 0 (record { macsr = macsr; mask = 0; acc = replicate 4 0 }) false fresh
 
 -- the reply's number, D0, D1, D2 and the condition codes after one step of a program, from D0, D1, D2 and the condition codes
 abbrev after : List ℕ → ℕ → ℕ → ℕ → ℕ → List ℕ
@@ -134,5 +127,5 @@ examples =
     ∷ [])
 
 pub checked-by-hand : map (λ x. x .given) examples ≡ map (λ x. x .said) examples
-unfolding examples step execute instruction perform rowOf placeIn admitted.admitted admitted.status admitted.emacAdmitted memory.load memory.valueAt memory.storeAt word.cut word.merged word.plus word.minus word.sizeOf word.signedAt word.signExtended registers.dataOf registers.addressOf registers.general registers.noWrite registers.writeData registers.written registers.withParts registers.withAddress registers.withPc registers.withSr registers.withStopped registers.withEmac registers.coded registers.applied address.operand address.extension address.source address.value address.fetch address.locate address.moved change.done change.acting flags.codes flags.keptCodes flags.moveCodes flags.added flags.subtracted flags.sumOrDifference flags.sumCodes l9.sums l9.toData le.lineE le.shift le.shifted le.shiftCount shift.shiftedLeft shift.signedShiftedRight shift.shiftCodes l4.line4 l4.divide l4.divided divide.signedQuotient divide.overflowCodes l0.line0 l0.findFirstOne leadingZeros la.lineA la.mac la.macRegisters la.toEmac la.setting emac.modeOf emac.accOf emac.withAcc emac.settled emac.accumulate emac.moveTo exceptions.setSr exceptions.handling exceptions.frameLong exceptions.handlerState exceptions.entered exceptions.returned exceptions.left exceptions.exception exceptions.rte
+unfolding examples step execute instruction perform rowOf placeIn admitted.admitted admitted.status admitted.emacAdmitted memory.load memory.valueAt memory.storeAt word.cut word.merged word.plus word.minus word.sizeOf word.signedAt word.signExtended registers.dataOf registers.addressOf registers.general registers.noWrite registers.writeData registers.written registers.withParts registers.withAddress registers.withPc registers.withSr registers.withStopped registers.withEmac registers.coded registers.applied address.operand address.extension address.source address.value address.fetch address.locate address.moved change.done change.acting flags.codes flags.keptCodes flags.moveCodes flags.added flags.subtracted flags.sumOrDifference flags.sumCodes l9.sums l9.toData le.lineE le.shift le.shifted le.shiftCount shift.shiftedLeft shift.signedShiftedRight shift.shiftCodes l4.line4 l4.divide l4.divided divide.signedQuotient divide.overflowCodes l0.line0 l0.findFirstOne leadingZeros la.lineA la.mac la.macRegisters la.toEmac la.setting emac.modeOf emac.accOf emac.withAcc emac.settled emac.accumulate emac.moveTo exceptions.setSr exceptions.handling exceptions.frameLong exceptions.handlerState exceptions.entered exceptions.returned exceptions.left exceptions.exception exceptions.rte fresh
 checked-by-hand = refl

@@ -39,29 +39,33 @@ written w g = cond (ltb (w .to) 16) (set g (w .to) (w .value)) g
 
 -- ---- the state with a part replaced
 
+-- the state with all that an instruction may change; the rest is as it was
+abbrev pub withAll : List ℕ → ℕ → ℕ → ℕ → Emac → Bool → Cpu → Cpu
+withAll g at sr other e stopped s = record { r = g; pc = at; sr = sr; other = other; vbr = s .vbr; cacr = s .cacr; emac = e; stopped = stopped }
+
 unfoldable pub withParts : List ℕ → ℕ → ℕ → Emac → Cpu → Cpu
-withParts g at sr e s = record { r = g; pc = at; sr = sr; other = s .other; vbr = s .vbr; cacr = s .cacr; emac = e; stopped = s .stopped }
+withParts g at sr e s = withAll g at sr (s .other) e (s .stopped) s
 
 unfoldable pub withRegisters : List ℕ → Cpu → Cpu
-withRegisters g s = record { r = g; pc = s .pc; sr = s .sr; other = s .other; vbr = s .vbr; cacr = s .cacr; emac = s .emac; stopped = s .stopped }
+withRegisters g s = withAll g (s .pc) (s .sr) (s .other) (s .emac) (s .stopped) s
 
 unfoldable pub withAddress : ℕ → ℕ → Cpu → Cpu
-withAddress n v s = record { r = set (s .r) (8 + n % 8) v; pc = s .pc; sr = s .sr; other = s .other; vbr = s .vbr; cacr = s .cacr; emac = s .emac; stopped = s .stopped }
+withAddress n v s = withAll (set (s .r) (8 + n % 8) v) (s .pc) (s .sr) (s .other) (s .emac) (s .stopped) s
 
 unfoldable pub withPc : ℕ → Cpu → Cpu
-withPc v s = record { r = s .r; pc = v; sr = s .sr; other = s .other; vbr = s .vbr; cacr = s .cacr; emac = s .emac; stopped = s .stopped }
+withPc v s = withAll (s .r) v (s .sr) (s .other) (s .emac) (s .stopped) s
 
 unfoldable pub withSr : ℕ → Cpu → Cpu
-withSr v s = record { r = s .r; pc = s .pc; sr = v; other = s .other; vbr = s .vbr; cacr = s .cacr; emac = s .emac; stopped = s .stopped }
+withSr v s = withAll (s .r) (s .pc) v (s .other) (s .emac) (s .stopped) s
 
 unfoldable pub withOther : ℕ → Cpu → Cpu
-withOther v s = record { r = s .r; pc = s .pc; sr = s .sr; other = v; vbr = s .vbr; cacr = s .cacr; emac = s .emac; stopped = s .stopped }
+withOther v s = withAll (s .r) (s .pc) (s .sr) v (s .emac) (s .stopped) s
 
 unfoldable pub withEmac : Emac → Cpu → Cpu
-withEmac e s = record { r = s .r; pc = s .pc; sr = s .sr; other = s .other; vbr = s .vbr; cacr = s .cacr; emac = e; stopped = s .stopped }
+withEmac e s = withAll (s .r) (s .pc) (s .sr) (s .other) e (s .stopped) s
 
 unfoldable pub withStopped : Bool → Cpu → Cpu
-withStopped b s = record { r = s .r; pc = s .pc; sr = s .sr; other = s .other; vbr = s .vbr; cacr = s .cacr; emac = s .emac; stopped = b }
+withStopped b s = withAll (s .r) (s .pc) (s .sr) (s .other) (s .emac) b s
 
 -- the status register with other condition codes
 unfoldable pub coded : ℕ → ℕ → ℕ

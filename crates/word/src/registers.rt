@@ -85,16 +85,12 @@ pub fn address_after(g: &[u32; 16], w: Write, r: u32) -> u32
 pub fn with_parts(cpu: Cpu, g: [u32; 16], pc: u32, sr: u16, emac: Emac) -> Cpu
     ensures { λ s. ⌜ s ≡ withParts g pc sr emac cpu ⌝ }
 {
-    Cpu {
-        r: g,
-        pc: pc,
-        sr: sr,
-        other: cpu.other,
-        vbr: cpu.vbr,
-        cacr: cpu.cacr,
-        emac: emac,
-        stopped: cpu.stopped,
-    }
+    let mut next = cpu;
+    next.r = g;
+    next.pc = pc;
+    next.sr = sr;
+    next.emac = emac;
+    next
 }
 
 pub fn with_registers(cpu: Cpu, g: [u32; 16]) -> Cpu
