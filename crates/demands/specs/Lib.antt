@@ -15,10 +15,8 @@ pub mod StepReplies
 pub mod EntryReplies
 pub mod CallReplies
 pub mod ExactLaws
-pub mod Host
 pub mod Handmade
 pub mod Followed
 pub mod Engines
 pub mod Admits
 pub mod Units
-pub mod Determined
