@@ -15,8 +15,6 @@ use Rattle.manual.specs.Image.{loadImage, runText, answerLine, textOf}
 use Rattle.instructions.specs.Step.{step}
 use Rattle.instructions.specs.Run.{run}
 use Rattle.emacunit.specs.UnitCalls as unit
-use Rattle.blockcalls.specs.Calls.{rteOn, exceptionOn, interruptOn}
-use Rattle.harness.specs.Calls.{stepOn, runOn}
 
 -- what a promise allows is what is equal to x; two such outcomes are equal
 abbrev pub Determined : {A : Type 0} → A → Type 0
@@ -100,18 +98,3 @@ run-text-determined n count s = determined (textOf (runText n count s))
 
 pub answer-text-determined : (n : Reply) → Determined (textOf (answerLine n))
 answer-text-determined n = determined (textOf (answerLine n))
-
-pub host-step-determined : (b m : List ℕ) → Determined (stepOn b m)
-host-step-determined b m = determined (stepOn b m)
-
-pub host-run-determined : (b m : List ℕ) (budget : ℕ) → Determined (runOn b m budget)
-host-run-determined b m budget = determined (runOn b m budget)
-
-pub host-rte-determined : (b m : List ℕ) → Determined (rteOn b m)
-host-rte-determined b m = determined (rteOn b m)
-
-pub host-exception-determined : (b m : List ℕ) (vector pc : ℕ) (level : Level) → Determined (exceptionOn b m vector pc level)
-host-exception-determined b m vector pc level = determined (exceptionOn b m vector pc level)
-
-pub host-interrupt-determined : (b m : List ℕ) (vector level : ℕ) → Determined (interruptOn b m vector level)
-host-interrupt-determined b m vector level = determined (interruptOn b m vector level)

@@ -20,3 +20,4 @@ pub mod Followed
 pub mod Engines
 pub mod Admits
 pub mod Units
+pub mod Determined
