@@ -1,3 +1,6 @@
+pub mod Accesses
+pub mod Exact
+pub mod AccessLaws
 pub mod EntryLaws
 pub mod StepLaws
 pub mod Undone
@@ -5,8 +8,6 @@ pub mod ValueLaws
 pub mod Nesting
 pub mod Refusals
 pub mod Runs
-pub mod Accesses
-pub mod Exact
 pub mod PartLaws
 pub mod BodyLaws
 pub mod InstructionLaws
