@@ -1,6 +1,7 @@
 pub mod Accesses
 pub mod Exact
 pub mod AccessLaws
+pub mod FirstReplies
 pub mod EntryLaws
 pub mod StepLaws
 pub mod Undone
