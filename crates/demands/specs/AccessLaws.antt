@@ -29,10 +29,10 @@ use Rattle.demands.specs.Exact.{Bytes}
 
 -- ---- an access goes by the length of storage, and lies at its address
 
-here-or-not : (p : ℕ) (x : Fault) → Here p ≡ Not x → ⊥
+pub here-or-not : (p : ℕ) (x : Fault) → Here p ≡ Not x → ⊥
 here-or-not p x e = let z : _≡_ {A = ℕ} 0 1 = cc in omega arith
 
-taken-or-not : (x : Fault) → NotTaken x ≡ Taken → ⊥
+pub taken-or-not : (x : Fault) → NotTaken x ≡ Taken → ⊥
 taken-or-not x e = let z : _≡_ {A = ℕ} 0 1 = cc in omega arith
 
 module _ (m : Memory) (a n : ℕ) where
