@@ -1,6 +1,6 @@
 -- What an access and a load answer, and what goes by them. The laws that look into memory, at the length of storage and at where an
 -- address lies in it, stand here. Assumes nothing.
-use Prim.Native.Nat.{ℕ, _+_, _^_, _≤_, _<_}
+use Prim.Native.Nat.{ℕ, _+_, _≤_, _<_}
 use mathlib.Core.Path.{_≡_, refl, sym, ap, _∙_}
 use mathlib.Core.List.{List}
 use mathlib.Core.Logic.{_↔_}
@@ -17,10 +17,9 @@ use Rattle.manual.specs.declared.Got.{Got}
 use Rattle.manual.specs.declared.Got.the-variants.{Value, Fault as NoValue}
 use Rattle.manual.specs.declared.Stored.{Stored}
 use Rattle.manual.specs.declared.Stored.the-variants.{Done as Taken, Fault as NotTaken}
-use Rattle.manual.specs.declared.Reply.{Reply}
 use Rattle.manual.specs.declared.Reply.the-variants.{Done}
 use Rattle.manual.specs.Word.{bytes}
-use Rattle.manual.specs.Memory.{Storage, Memory, storageOf, valueAt, access, taken, found, load, numberIn, numberAt}
+use Rattle.manual.specs.Memory.{Memory, storageOf, valueAt, access, taken, found, load, numberIn, numberAt}
 use Rattle.manual.specs.Reply.{Outcome, unchanged, refusal, faultReply, accessing, loading, taking}
 use Rattle.word.specs.TestLaws.{by-lt}
 use Rattle.memory.specs.MemoryLaws.{is-here, is-not, value-one, value-lt}

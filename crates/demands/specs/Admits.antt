@@ -20,7 +20,6 @@ use Rattle.manual.specs.declared.Got.{Got}
 use Rattle.manual.specs.declared.Got.the-variants.{Value, Fault as NoValue}
 use Rattle.manual.specs.declared.Reply.the-variants.{Done, NotAdmitted, Stopped, OutOfRange, Masked, WrongVersion, WrongLength}
 use Rattle.manual.specs.declared.Answer.{Answer}
-use Rattle.manual.specs.declared.Popped.{Popped}
 use Rattle.manual.specs.declared.Action.{Action}
 use Rattle.manual.specs.declared.Action.the-variants.{Nothing, Store, StoreMany, LoadMany, Enter, Return, Status, Stop, PushStatus, Halt, Other, Accumulate, SetAcc, SetExt, SetMacsr, SetMask, CopyAcc, ClearAcc, Refuse}
 use Rattle.manual.specs.declared.Change.{Change}

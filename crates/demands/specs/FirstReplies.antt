@@ -1,5 +1,5 @@
 -- When a call is refused before it begins, and with which reply. Assumes nothing.
-use Prim.Native.Nat.{ℕ, _≤_, _^_}
+use Prim.Native.Nat.{_≤_}
 use mathlib.Core.Path.{_≡_, refl, sym}
 use mathlib.Core.Bool.{Bool, true, false, cond, false≢true}
 use mathlib.Core.List.{[], _∷_}
@@ -63,9 +63,6 @@ module _ (s : Cpu) (l : Lent) where
       by false true = inl refl
       by false false = inr (inr (inl refl))
 
-  -- so memory is of a call's length
-  pub short-of : Ready s l → length (l .storage) ≤ 2 ^ 24
-  short-of h = by-not (usable-is l .0 (first-lent s l h))
-    where
-      by-not : (TooLong l → ⊥) → length (l .storage) ≤ 2 ^ 24
-      by-not n = by-lt (2 ^ 24) (length (l .storage)) (λ o. absurd (n o)) (λ h. h)
+  -- where none fails memory is short
+  pub short-of : Ready s l → length (l .storage) ≤ longest
+  short-of h = by-lt longest (length (l .storage)) (λ o. absurd (usable-is l .0 (first-lent s l h) o)) (λ h. h)

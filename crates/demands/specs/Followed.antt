@@ -3,10 +3,9 @@
 -- A step that gets as far as its word has fetched it at its program counter; every step that is done does. Of the rows that fit the
 -- word, one has the most fixed bits, and only one; any two rows that fit it are nested, one having all the other's fixed bits and more.
 -- What the step does, be it done or refused, is what that row's instruction says, and the row's line is the word's. Assumes nothing.
-use Prim.Native.Nat.{ℕ, _+_, _/_, _≤_, _<_}
+use Prim.Native.Nat.{ℕ, _/_, _≤_, _<_}
 use mathlib.Core.Path.{_≡_, refl, sym, ap, _∙_}
 use mathlib.Core.Bool.{false}
-use mathlib.Core.List.{List}
 use lib.Bits.{bitAnd}
 use Rattle.manual.specs.declared.Cpu.{Cpu}
 use Rattle.manual.specs.declared.Change.{Change}

@@ -22,7 +22,7 @@ use Rattle.manual.specs.Registers.{addressOf, withAddress, withPc, withSr, with
 use Rattle.manual.specs.Reply.{Outcome, completed}
 use Rattle.manual.specs.Memory.{Storage, Memory, numberAt}
 use Rattle.manual.specs.Admitted.{status, admitted}
-use Rattle.manual.specs.Lent.{Lent, memoryOf, lentOn}
+use Rattle.manual.specs.Lent.{Lent, memoryOf, lentOn, longest}
 use Rattle.manual.specs.Exceptions.{supervisor, twoStacks, handling, pcPlace, framePlace, handlerState}
 use Rattle.word.specs.WordLaws.{minus-below}
 use Rattle.memory.specs.MemoryLaws.{byte-store, length-store, value-lt}
@@ -118,12 +118,12 @@ NothingBetween =
 
 -- ---- the frame of an entry that was done: below the pointer, and within memory
 
-module _ (sp n : ℕ) (f : sp < 2 ^ 32) (short : n ≤ 2 ^ 24) (hi : pcPlace sp + 4 ≤ n) (lo : framePlace sp + 4 ≤ n) where
+module _ (sp n : ℕ) (f : sp < 2 ^ 32) (short : n ≤ longest) (hi : pcPlace sp + 4 ≤ n) (lo : framePlace sp + 4 ≤ n) where
   frame-below : framePlace sp + 8 ≤ sp
   unfolding minus
   frame-below = omega arith
 
-  frame-low : framePlace sp ≤ 2 ^ 24
+  frame-low : framePlace sp ≤ longest
   frame-low = omega arith
 
   pc-next : pcPlace sp ≡ framePlace sp + 4
@@ -139,13 +139,13 @@ module _ (sp n : ℕ) (f : sp < 2 ^ 32) (short : n ≤ 2 ^ 24) (hi : pcPlace sp 
 -- all frames are at x or above it, and within memory
 abbrev Above : ℕ → List Pending → Type 0
 Above x [] = Unit {0}
-Above x (e ∷ es) = ((x ≤ frameOf e) × (frameOf e ≤ 2 ^ 24)) × Above x es
+Above x (e ∷ es) = ((x ≤ frameOf e) × (frameOf e ≤ longest)) × Above x es
 
 above-less : (x y : ℕ) (es : List Pending) → x ≤ y → Above y es → Above x es
 above-less x y [] h a = tt
 above-less x y (e ∷ es) h a = ((omega (arith, a .0 .0), a .0 .1), above-less x y es h (a .1))
 
-plus-small : (a j : ℕ) → a ≤ 2 ^ 24 → j < 8 → plus a j ≡ a + j
+plus-small : (a j : ℕ) → a ≤ longest → j < 8 → plus a j ≡ a + j
 unfolding plus
 plus-small a j h k = omega arith
 
@@ -170,7 +170,7 @@ record Top (e : Pending) (es : List Pending) (s : Cpu) (l : Lent) : Type 0 where
   done : e .answer .stepped .reply ≡ Done
   frames : SameFrames es (memoryOf (e .lent)) (memoryOf l)
   above : Above (frameOf e) es
-  low : frameOf e ≤ 2 ^ 24
+  low : frameOf e ≤ longest
 
 Holds : List Pending → Cpu → Lent → Type 0
 Holds [] s l = Values s (l .storage) × (admitted s ≡ true)
@@ -212,7 +212,7 @@ record Entered (s : Cpu) (l : Lent) (es : List Pending) (answer : Outcome) : Typ
   taken : admitted (answer .stepped .cpu) ≡ true
   frames : SameFrames es (memoryOf l) (memoryOf (afterwards l answer))
   above : Above (addressOf (answer .stepped .cpu .r) 7) es
-  low : addressOf (answer .stepped .cpu .r) 7 ≤ 2 ^ 24
+  low : addressOf (answer .stepped .cpu .r) 7 ≤ longest
   as-long : length (answer .storage) ≡ length (l .storage)
   outside : (j : ℕ) → (j < addressOf (answer .stepped .cpu .r) 7) ⊎ (addressOf (answer .stepped .cpu .r) 7 + 8 ≤ j)
       → numberAt (memoryOf (afterwards l answer)) j Byte ≡ numberAt (memoryOf l) j Byte
@@ -226,7 +226,7 @@ module _ (es : List Pending) (s : Cpu) (l : Lent) (pc : ℕ) (answer : Outcome) 
       let x : Left s (memoryOf l) (w .at) pc level (w .vector) (answer .stepped .cpu) (answer .storage) = way-left _ _ _ _ (typed .sixteen) w done in
       let n : Named s level (answer .stepped .cpu) = named _ _ _ _ _ _ _ _ (typed .sixteen) x in
       let f : sp < 2 ^ 32 = sp-long s (l .storage) level typed in
-      let short : length (l .storage) ≤ 2 ^ 24 = short-of s l (w .ready) in
+      let short : length (l .storage) ≤ longest = short-of s l (w .ready) in
       let admits : admitted s ≡ true = first-admitted s l (w .ready) in
       let below : framePlace sp + 8 ≤ sp = frame-below sp (length (l .storage)) f short (x .hi) (x .lo) in
       let byte : (j : ℕ) → (j < framePlace sp) ⊎ (framePlace sp + 8 ≤ j) → numberAt (memoryOf (afterwards l answer)) j Byte ≡ numberAt (memoryOf l) j Byte =

@@ -1,5 +1,5 @@
 -- Replies by their numbers: what number a tree of tests gives, and when. Assumes nothing.
-use Prim.Native.Nat.{ℕ, zero, suc, _/_, _%_, _≤_, _<_, _+_}
+use Prim.Native.Nat.{ℕ, zero, suc, _/_, _%_, _≤_, _<_}
 use mathlib.Core.Path.{_≡_, refl, sym, ap, _∙_}
 use mathlib.Core.Bool.{Bool, true, false, cond, _&&_, false≢true}
 use mathlib.Core.List.{List, [], _∷_}
@@ -24,7 +24,7 @@ use Rattle.manual.specs.declared.Change.{Change}
 use Rattle.manual.specs.Word.{bytes, plus, minus}
 use Rattle.manual.specs.Registers.{addressOf, applied}
 use Rattle.manual.specs.Memory.{Memory, storageOf, access, taken, found, load, storing, firstFault, accessMany}
-use Rattle.manual.specs.Reply.{numberOf, isDone, Outcome, unchanged, refusal, faultReply, accessing, loading, taking}
+use Rattle.manual.specs.Reply.{numberOf, Outcome, unchanged, refusal, faultReply, accessing, loading, taking}
 use Rattle.manual.specs.Admitted.{admitted}
 use Rattle.manual.specs.Lent.{Lent, memoryOf, firstRefusal, checked}
 use Rattle.manual.specs.Differences.{vectorPlace}

@@ -12,7 +12,6 @@ use native.Mathlib.Omega.{arith}
 use lib.Dec.{eqb}
 use lib.ListN.{length}
 use Rattle.manual.specs.declared.Cpu.{Cpu}
-use Rattle.manual.specs.declared.Reply.{Reply}
 use Rattle.manual.specs.declared.Reply.the-variants.{Done, Stopped}
 use Rattle.manual.specs.declared.Size.{Size}
 use Rattle.manual.specs.declared.Size.the-variants.{Long}

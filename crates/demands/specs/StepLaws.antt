@@ -12,7 +12,6 @@ use Rattle.manual.specs.declared.Action.the-variants.{Enter, Return}
 use Rattle.manual.specs.declared.Change.{Change}
 use Rattle.manual.specs.declared.Level.the-variants.{Kept}
 use Rattle.manual.specs.declared.Size.the-variants.{Word}
-use Rattle.manual.specs.declared.Reply.{Reply}
 use Rattle.manual.specs.declared.Reply.the-variants.{Done, Stopped as Stop}
 use Rattle.manual.specs.declared.Fault.{Fault}
 use Rattle.manual.specs.declared.Access.{Access}
@@ -21,7 +20,7 @@ use Rattle.manual.specs.declared.Stored.the-variants.{Done as Taken}
 use Rattle.manual.specs.Word.{plus}
 use Rattle.manual.specs.Flags.{keptCodes}
 use Rattle.manual.specs.Registers.{noWrite, written, withParts, withPc, coded, applied}
-use Rattle.manual.specs.Memory.{Memory, access, taken, numberAt, load}
+use Rattle.manual.specs.Memory.{Memory, access, taken, numberAt}
 use Rattle.manual.specs.Change.{acting, enterAfter, enter, refused, refuse}
 use Rattle.manual.specs.Reply.{Outcome, unchanged, faultReply}
 use Rattle.manual.specs.Lent.{Lent, memoryOf}

@@ -1,7 +1,7 @@
 -- When a step and a run give each reply. Assumes nothing.
-use Prim.Native.Nat.{ℕ, _+_, _/_, _%_, _≤_, _<_}
+use Prim.Native.Nat.{ℕ, _+_, _/_, _%_, _<_}
 use mathlib.Core.Path.{_≡_, refl, sym, ap, _∙_}
-use mathlib.Core.Bool.{Bool, true, false, cond, false≢true}
+use mathlib.Core.Bool.{Bool, true, false, cond}
 use mathlib.Core.List.{List, [], _∷_, _++_}
 use mathlib.Core.Logic.{_↔_, _⊎_, ⊎-elim, inl, inr}
 use native.Mathlib.Omega.{arith}
@@ -31,7 +31,7 @@ use Rattle.instructions.specs.Step.{instruction, step}
 use Rattle.instructions.specs.Run.{RunOutcome, run}
 use Rattle.statusregister.specs.FirstLaws.{first-admitted, first-kept}
 use Rattle.demands.specs.Refusals.{done-is}
-use Rattle.demands.specs.Runs.{Ends, runs}
+use Rattle.demands.specs.Runs.{runs}
 use Rattle.demands.specs.Admits.{admits}
 use Rattle.demands.specs.Accesses.{Wanted, wanted, Inside, SomeOutside, reads0, reads4, reads, leaves, accesses}
 use Rattle.demands.specs.AccessLaws.{word-lt}

@@ -8,7 +8,6 @@
 use Prim.Native.Nat.{ℕ, _+_, _/_, _%_, _^_, _≤_, _<_}
 use mathlib.Core.Path.{_≡_, refl, sym, ap, _∙_}
 use mathlib.Core.Bool.{Bool, true, false, cond}
-use mathlib.Core.List.{List}
 use native.Mathlib.Omega.{arith}
 use lib.Dec.{eqb, ltb}
 use lib.ListN.{length, getD, length-set}
@@ -19,7 +18,7 @@ use Rattle.manual.specs.declared.Size.the-variants.{Byte, Word}
 use Rattle.manual.specs.declared.Reply.the-variants.{Done, OutOfRange, Masked}
 use Rattle.manual.specs.Word.{plus}
 use Rattle.manual.specs.Registers.{addressOf, withAddress, withPc, withStopped}
-use Rattle.manual.specs.Memory.{Storage, Memory, storageOf, numberAt, valueAt, storeAt}
+use Rattle.manual.specs.Memory.{Storage, Memory, storageOf, numberAt, valueAt}
 use Rattle.manual.specs.Reply.{Outcome, completed, unchanged}
 use Rattle.manual.specs.Admitted.{status, admitted}
 use Rattle.manual.specs.Lent.{Lent, memoryOf, lentOn}
