@@ -19,6 +19,7 @@ use word::word::plus;
 use word::word::sign_extended;
 ghost use mathlib.Core.Path.{_≡_};
 ghost use Prim.Native.Nat.{_+_, _-_, _*_, _/_, _%_, _^_, _≤_, _<_};
+ghost use Rattle.manual.specs.Memory.{mapped};
 ghost use Rattle.manual.specs.Address.{operand as operandOf, extension as extensionOf, index as indexOf, indexed as indexedOf, immediate as immediateOf, locate as locateOf, moved as movedOf, fetch as fetchOf, value as valueOf, reached as reachedOf, control as controlOf, source as sourceOf};
 
 pub fn operand(mode: u32, r: u32) -> Operand
@@ -91,7 +92,7 @@ fn indexed(g: &[u32; 16], base: u32, w: u32) -> u32
 }
 
 pub fn locate(g: &[u32; 16], mem: &[u8], pc: u32, o: Operand, z: Size) -> Place
-    ensures { λ p. ⌜ p ≡ locateOf (now (g .entry)) (now (mem .entry)) pc o z ⌝ }
+    ensures { λ p. ⌜ p ≡ locateOf (now (g .entry)) (mapped (now (mem .entry))) pc o z ⌝ }
 {
     match o {
         Operand::Data(r) => Place::D(r),
@@ -129,7 +130,7 @@ pub fn locate(g: &[u32; 16], mem: &[u8], pc: u32, o: Operand, z: Size) -> Place
 }
 
 fn immediate(mem: &[u8], pc: u32, z: Size) -> Place
-    ensures { λ p. ⌜ p ≡ immediateOf (now (mem .entry)) pc z ⌝ }
+    ensures { λ p. ⌜ p ≡ immediateOf (mapped (now (mem .entry))) pc z ⌝ }
 {
     match z {
         Size::Byte => match load(mem, pc, Size::Word) {
@@ -158,7 +159,7 @@ pub fn moved(g: &[u32; 16], o: Operand, z: Size) -> Write
 }
 
 pub fn fetch(g: &[u32; 16], mem: &[u8], p: Place, z: Size) -> Got
-    ensures { λ got. ⌜ got ≡ fetchOf (now (g .entry)) (now (mem .entry)) p z ⌝ }
+    ensures { λ got. ⌜ got ≡ fetchOf (now (g .entry)) (mapped (now (mem .entry))) p z ⌝ }
 {
     match p {
         Place::D(r) => Got::Value(cut(z, data(g, r))),
@@ -170,7 +171,7 @@ pub fn fetch(g: &[u32; 16], mem: &[u8], p: Place, z: Size) -> Got
 }
 
 pub fn value(g: &[u32; 16], mem: &[u8], pc: u32, o: Operand, z: Size) -> Got
-    ensures { λ got. ⌜ got ≡ valueOf (now (g .entry)) (now (mem .entry)) pc o z ⌝ }
+    ensures { λ got. ⌜ got ≡ valueOf (now (g .entry)) (mapped (now (mem .entry))) pc o z ⌝ }
 {
     fetch(g, mem, locate(g, mem, pc, o, z), z)
 }
@@ -186,7 +187,7 @@ fn reached(p: Place) -> Reached
 }
 
 pub fn control(g: &[u32; 16], mem: &[u8], pc: u32, o: Operand) -> Reached
-    ensures { λ r. ⌜ r ≡ controlOf (now (g .entry)) (now (mem .entry)) pc o ⌝ }
+    ensures { λ r. ⌜ r ≡ controlOf (now (g .entry)) (mapped (now (mem .entry))) pc o ⌝ }
 {
     match o {
         Operand::PostIncrement(_) => Reached::NoAddress,
@@ -198,7 +199,7 @@ pub fn control(g: &[u32; 16], mem: &[u8], pc: u32, o: Operand) -> Reached
 
 // Every mode, by the plain leaves.
 fn far(g: &[u32; 16], mem: &[u8], pc: u32, op: u32, z: Size) -> Source
-    ensures { λ r. ⌜ r ≡ sourceOf (now (g .entry)) (now (mem .entry)) pc op z ⌝ }
+    ensures { λ r. ⌜ r ≡ sourceOf (now (g .entry)) (mapped (now (mem .entry))) pc op z ⌝ }
 {
     let o = operand(op / 8 % 8, op % 8);
     let got = value(g, mem, pc, o, z);
@@ -213,7 +214,7 @@ fn far(g: &[u32; 16], mem: &[u8], pc: u32, op: u32, z: Size) -> Source
 
 // What an operand reads, by one `match` on its mode: most operands are one of these, and the rest are far.
 pub fn source(g: &[u32; 16], mem: &[u8], pc: u32, op: u32, z: Size) -> Source
-    ensures { λ r. ⌜ r ≡ sourceOf (now (g .entry)) (now (mem .entry)) pc op z ⌝ }
+    ensures { λ r. ⌜ r ≡ sourceOf (now (g .entry)) (mapped (now (mem .entry))) pc op z ⌝ }
 {
     match op / 8 % 8 {
         0 => {

@@ -4,61 +4,53 @@
 use Prim.Native.Nat.{ℕ, _+_, _*_}
 use mathlib.Core.Bool.{cond}
 use mathlib.Core.List.{List}
+use lib.Dec.{eqb}
 use Rattle.manual.specs.declared.Cpu.{Cpu}
 use Rattle.manual.specs.declared.Level.{Level}
 use Rattle.manual.specs.declared.Answer.{Answer}
 use Rattle.manual.specs.declared.Reply.{Reply}
-use Rattle.manual.specs.declared.Reply.the-variants.{Done, TooLong, NotAdmitted, Stopped, NotInside, NotCarried, OutOfRange, Masked, WrongVersion, WrongLength}
 use Rattle.manual.specs.Reply.{Outcome, numberOf, isDone}
-use Rattle.manual.specs.Admitted.{tooLong}
+use Rattle.manual.specs.Memory.{Storage}
+use Rattle.manual.specs.Lent.{Lent, orElse, lentRefusal}
 use Rattle.manual.specs.Exceptions.{exception, interrupt, rte}
 use Rattle.manual.specs.Block.{readBlock, storeBlock}
 
--- the answer, and the block and memory after it
+-- the answer, and the block and storage after it
 pub record Called : Type 0 where
   pub answer : ℕ
   pub block : List ℕ
-  pub memory : List ℕ
+  pub storage : Storage
 
-abbrev pub called : ℕ → List ℕ → List ℕ → Called
-called n b m = record { answer = n; block = b; memory = m }
+abbrev pub called : ℕ → List ℕ → Storage → Called
+called n b m = record { answer = n; block = b; storage = m }
 
--- the reply to a block that is refused: 8 and 9, then 1 for the memory, and then 2
-unfoldable pub blockReply : Reply → List ℕ → Reply
-blockReply Done m = Done
-blockReply TooLong m = TooLong
-blockReply NotAdmitted m = cond (tooLong m) TooLong NotAdmitted
-blockReply Stopped m = Stopped
-blockReply NotInside m = NotInside
-blockReply NotCarried m = NotCarried
-blockReply OutOfRange m = OutOfRange
-blockReply Masked m = Masked
-blockReply WrongVersion m = WrongVersion
-blockReply WrongLength m = WrongLength
+-- the reply to a block: where its state is not admitted, what is lent is refused before it
+unfoldable pub blockReply : Reply → Lent → Reply
+blockReply n l = cond (eqb (numberOf n) 2) (orElse (lentRefusal l) n) n
 
 -- the state that a block holds, or the reply that refuses it
-abbrev pub opened : List ℕ → List ℕ → Answer
-opened b m = record { reply = blockReply (readBlock b .reply) m; cpu = readBlock b .cpu }
+abbrev pub opened : List ℕ → Lent → Answer
+opened b l = record { reply = blockReply (readBlock b .reply) l; cpu = readBlock b .cpu }
 
-abbrev pub notRead : Answer → List ℕ → List ℕ → Called
-notRead r b m = called (numberOf (blockReply (r .reply) m)) b m
+abbrev pub notRead : Answer → List ℕ → Lent → Called
+notRead r b l = called (numberOf (blockReply (r .reply) l)) b (l .storage)
 
 -- the block after a call: it holds the new state where the call was done
 unfoldable pub settled : Reply → Cpu → List ℕ → List ℕ
 settled n s b = cond (isDone n) (storeBlock s b .bytes) b
 
 -- a call with the outcome o on the state that r read from the block b; the vector counts w times
-unfoldable pub onBlock : ℕ → Answer → Outcome → List ℕ → List ℕ → Called
-onBlock w r o b m =
+unfoldable pub onBlock : ℕ → Answer → Outcome → List ℕ → Lent → Called
+onBlock w r o b l =
     cond (isDone (r .reply))
-    (called (numberOf (o .stepped .reply) + w * o .stepped .vector) (settled (o .stepped .reply) (o .stepped .cpu) b) (o .memory))
-    (notRead r b m)
+    (called (numberOf (o .stepped .reply) + w * o .stepped .vector) (settled (o .stepped .reply) (o .stepped .cpu) b) (o .storage))
+    (notRead r b l)
 
-unfoldable pub exceptionOn : List ℕ → List ℕ → ℕ → ℕ → Level → Called
-exceptionOn b m vector pc level = let r : Answer = readBlock b in onBlock 0 r (exception (r .cpu) m vector pc level) b m
+unfoldable pub exceptionOn : List ℕ → Lent → ℕ → ℕ → Level → Called
+exceptionOn b l vector pc level = let r : Answer = readBlock b in onBlock 0 r (exception (r .cpu) l vector pc level) b l
 
-unfoldable pub interruptOn : List ℕ → List ℕ → ℕ → ℕ → Called
-interruptOn b m vector level = let r : Answer = readBlock b in onBlock 0 r (interrupt (r .cpu) m vector level) b m
+unfoldable pub interruptOn : List ℕ → Lent → ℕ → ℕ → Called
+interruptOn b l vector level = let r : Answer = readBlock b in onBlock 0 r (interrupt (r .cpu) l vector level) b l
 
-unfoldable pub rteOn : List ℕ → List ℕ → Called
-rteOn b m = let r : Answer = readBlock b in onBlock 0 r (rte (r .cpu) m) b m
+unfoldable pub rteOn : List ℕ → Lent → Called
+rteOn b l = let r : Answer = readBlock b in onBlock 0 r (rte (r .cpu) l) b l

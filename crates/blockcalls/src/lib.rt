@@ -11,29 +11,30 @@ use manual::Reply;
 use manual::Stepped;
 use replies::is_done;
 use replies::number_of;
+use statusregister::lent_refusal;
 ghost use mathlib.Core.Path.{_≡_};
 ghost use mathlib.Core.Bool.{cond};
 ghost use Rattle.manual.specs.declared.Level.the-variants.{Kept, To};
 ghost use Rattle.manual.specs.Reply.{outcome};
+ghost use Rattle.manual.specs.Lent.{lent};
 ghost use Rattle.manual.specs.Block.{readBlock, storeBlock};
 ghost use Rattle.blockcalls.specs.Calls.{called, blockReply, opened as openedOf, onBlock, exceptionOn, interruptOn, rteOn};
 ghost use Rattle.blockcalls.specs.Made.{made as madeOf};
 
+// A block that says no admitted state is refused after what is lent.
 fn block_reply(reply: Reply, mem: &[u8]) -> Reply
-    ensures { λ r. ⌜ r ≡ blockReply reply (now (mem .entry)) ⌝ }
+    ensures { λ r. ⌜ r ≡ blockReply reply (lent (now (mem .entry))) ⌝ }
 {
-    let Reply::NotAdmitted = reply else {
+    if number_of(reply) != 2 {
         return reply;
-    };
-    if 0x100_0000 < mem.len() {
-        return Reply::TooLong;
     }
-    Reply::NotAdmitted
+    let unusable = lent_refusal(mem);
+    if is_done(unusable) { reply } else { unusable }
 }
 
 // The state that the block holds, or the reply that refuses the block.
 pub fn opened(block: &[u8], mem: &[u8]) -> Answer
-    ensures { λ r. ⌜ r ≡ openedOf (now (block .entry)) (now (mem .entry)) ⌝ }
+    ensures { λ r. ⌜ r ≡ openedOf (now (block .entry)) (lent (now (mem .entry))) ⌝ }
 {
     let read = read_block(block);
     let told = read.reply;
@@ -62,7 +63,7 @@ enum Call {
 }
 
 fn made(call: Call, cpu: Cpu, mem: &mut [u8]) -> Stepped
-    ensures { λ r. ⌜ outcome r (now (mem .exit)) ≡ madeOf call cpu (now (mem .entry)) ⌝ }
+    ensures { λ r. ⌜ outcome r (now (mem .exit)) ≡ madeOf call cpu (lent (now (mem .entry))) ⌝ }
 {
     match call {
         Call::Rte => rte_call(cpu, &*mem),
@@ -72,7 +73,7 @@ fn made(call: Call, cpu: Cpu, mem: &mut [u8]) -> Stepped
 }
 
 fn on_block(block: &mut [u8], mem: &mut [u8], call: Call) -> u32
-    ensures { λ r. ⌜ called r (now (block .exit)) (now (mem .exit)) ≡ onBlock 0 (readBlock (now (block .entry))) (madeOf call (readBlock (now (block .entry)) .cpu) (now (mem .entry))) (now (block .entry)) (now (mem .entry)) ⌝ }
+    ensures { λ r. ⌜ called r (now (block .exit)) (now (mem .exit)) ≡ onBlock 0 (readBlock (now (block .entry))) (madeOf call (readBlock (now (block .entry)) .cpu) (lent (now (mem .entry)))) (now (block .entry)) (lent (now (mem .entry))) ⌝ }
 {
     let read = opened(&*block, &*mem);
     let given = read.cpu;
@@ -87,26 +88,30 @@ fn on_block(block: &mut [u8], mem: &mut [u8], call: Call) -> u32
     number_of(reply)
 }
 
+// Returns from an exception: the number of the reply.
 pub fn rte(block: &mut [u8], mem: &mut [u8]) -> u32
-    ensures { λ r. ⌜ called r (now (block .exit)) (now (mem .exit)) ≡ rteOn (now (block .entry)) (now (mem .entry)) ⌝ }
+    ensures { λ r. ⌜ called r (now (block .exit)) (now (mem .exit)) ≡ rteOn (now (block .entry)) (lent (now (mem .entry))) ⌝ }
 {
     on_block(block, mem, Call::Rte)
 }
 
+// Enters an exception, keeping the mask: the number of the reply.
 pub fn exception(block: &mut [u8], mem: &mut [u8], vector: u8, pc: u32) -> u32
-    ensures { λ r. ⌜ called r (now (block .exit)) (now (mem .exit)) ≡ exceptionOn (now (block .entry)) (now (mem .entry)) vector pc Kept ⌝ }
+    ensures { λ r. ⌜ called r (now (block .exit)) (now (mem .exit)) ≡ exceptionOn (now (block .entry)) (lent (now (mem .entry))) vector pc Kept ⌝ }
 {
     on_block(block, mem, Call::Exception(vector, pc, Level::Kept))
 }
 
+// Enters an exception at a level: the number of the reply.
 pub fn exception_at(block: &mut [u8], mem: &mut [u8], vector: u8, pc: u32, level: u8) -> u32
-    ensures { λ r. ⌜ called r (now (block .exit)) (now (mem .exit)) ≡ exceptionOn (now (block .entry)) (now (mem .entry)) vector pc (To level) ⌝ }
+    ensures { λ r. ⌜ called r (now (block .exit)) (now (mem .exit)) ≡ exceptionOn (now (block .entry)) (lent (now (mem .entry))) vector pc (To level) ⌝ }
 {
     on_block(block, mem, Call::Exception(vector, pc, Level::To(level)))
 }
 
+// Enters an interrupt: the number of the reply.
 pub fn interrupt(block: &mut [u8], mem: &mut [u8], vector: u8, level: u8) -> u32
-    ensures { λ r. ⌜ called r (now (block .exit)) (now (mem .exit)) ≡ interruptOn (now (block .entry)) (now (mem .entry)) vector level ⌝ }
+    ensures { λ r. ⌜ called r (now (block .exit)) (now (mem .exit)) ≡ interruptOn (now (block .entry)) (lent (now (mem .entry))) vector level ⌝ }
 {
     on_block(block, mem, Call::Interrupt(vector, level))
 }

@@ -6,9 +6,11 @@ use manual::Cpu;
 use manual::Level;
 use manual::Reply;
 use manual::Stepped;
-use statusregister::admitted;
+use replies::is_done;
+use statusregister::first_refusal;
 ghost use mathlib.Core.Path.{_≡_};
 ghost use Rattle.manual.specs.Reply.{outcome};
+ghost use Rattle.manual.specs.Lent.{lent};
 ghost use Rattle.manual.specs.Exceptions.{levelTaken, masked as maskedOf, exception as exceptionOf, interrupt as interruptOf, rte as rteOf};
 
 fn level_taken(level: Level) -> bool
@@ -20,14 +22,13 @@ fn level_taken(level: Level) -> bool
     }
 }
 
+// Enters an exception at a level, or keeping the mask.
 pub fn exception(cpu: Cpu, mem: &mut [u8], vector: u8, pc: u32, level: Level) -> Stepped
-    ensures { λ r. ⌜ outcome r (now (mem .exit)) ≡ exceptionOf cpu (now (mem .entry)) vector pc level ⌝ }
+    ensures { λ r. ⌜ outcome r (now (mem .exit)) ≡ exceptionOf cpu (lent (now (mem .entry))) vector pc level ⌝ }
 {
-    if 0x100_0000 < mem.len() {
-        return refusal(cpu, Reply::TooLong);
-    }
-    if !admitted(cpu) {
-        return refusal(cpu, Reply::NotAdmitted);
+    let first = first_refusal(cpu, &*mem);
+    if !is_done(first) {
+        return refusal(cpu, first);
     }
     if !level_taken(level) {
         return refusal(cpu, Reply::OutOfRange);
@@ -42,14 +43,13 @@ fn masked(sr: u16, level: u8) -> bool
     (level < 7) & (level as u16 <= sr / 0x100 % 8)
 }
 
+// Enters an interrupt, unless it is masked.
 pub fn interrupt(cpu: Cpu, mem: &mut [u8], vector: u8, level: u8) -> Stepped
-    ensures { λ r. ⌜ outcome r (now (mem .exit)) ≡ interruptOf cpu (now (mem .entry)) vector level ⌝ }
+    ensures { λ r. ⌜ outcome r (now (mem .exit)) ≡ interruptOf cpu (lent (now (mem .entry))) vector level ⌝ }
 {
-    if 0x100_0000 < mem.len() {
-        return refusal(cpu, Reply::TooLong);
-    }
-    if !admitted(cpu) {
-        return refusal(cpu, Reply::NotAdmitted);
+    let first = first_refusal(cpu, &*mem);
+    if !is_done(first) {
+        return refusal(cpu, first);
     }
     if 8 <= level {
         return refusal(cpu, Reply::OutOfRange);
@@ -60,14 +60,13 @@ pub fn interrupt(cpu: Cpu, mem: &mut [u8], vector: u8, level: u8) -> Stepped
     entered(cpu, cpu, Level::To(level), vector, cpu.pc, mem)
 }
 
+// Returns from an exception.
 pub fn rte(cpu: Cpu, mem: &[u8]) -> Stepped
-    ensures { λ r. ⌜ outcome r (now (mem .entry)) ≡ rteOf cpu (now (mem .entry)) ⌝ }
+    ensures { λ r. ⌜ outcome r (now (mem .entry)) ≡ rteOf cpu (lent (now (mem .entry))) ⌝ }
 {
-    if 0x100_0000 < mem.len() {
-        return refusal(cpu, Reply::TooLong);
-    }
-    if !admitted(cpu) {
-        return refusal(cpu, Reply::NotAdmitted);
+    let first = first_refusal(cpu, mem);
+    if !is_done(first) {
+        return refusal(cpu, first);
     }
     left(cpu, cpu, mem)
 }

@@ -6,12 +6,13 @@ use mathlib.Core.Logic.{_⊎_, inl, inr}
 use native.Mathlib.Omega.{arith}
 use Rattle.manual.specs.declared.Emac.{Emac}
 use Rattle.manual.specs.declared.Change.{Change}
+use Rattle.manual.specs.Memory.{Memory}
 use Rattle.instructions.specs.Rows.{rowCount}
 use Rattle.instructions.specs.Line0.{line0}
 use Rattle.instructions.specs.Step.{inLine, ofRow}
 use Rattle.rows.specs.RowLaws.{firstOf, line-at, past-all}
 
-module _ (row : ℕ) (g : List ℕ) (at sr other : ℕ) (e : Emac) (m : List ℕ) (op : ℕ) (c : Change) where
+module _ (row : ℕ) (g : List ℕ) (at sr other : ℕ) (e : Emac) (m : Memory) (op : ℕ) (c : Change) where
   pub of-line : (line : ℕ) → line < 16 → firstOf line ≤ row → row < firstOf (line + 1) → row < rowCount
       → c ≡ inLine line row g at sr other e m op → c ≡ ofRow row g at sr other e m op
   unfolding ofRow

@@ -15,6 +15,7 @@ use linesbtof::linee::linee;
 use linesbtof::linef::linef;
 use manual::Change;
 ghost use mathlib.Core.Path.{_≡_};
+ghost use Rattle.manual.specs.Memory.{mapped};
 ghost use Rattle.manual.specs.Emac.{emacOf};
 ghost use Rattle.instructions.specs.Step.{ofRow};
 
@@ -32,7 +33,7 @@ pub fn instruction(
     mem: &[u8],
     op: u32,
 ) -> Change
-    ensures { λ e. ⌜ e ≡ ofRow row (now (g .entry)) at sr other (emacOf macsr mask (now (acc .entry))) (now (mem .entry)) op ⌝ }
+    ensures { λ e. ⌜ e ≡ ofRow row (now (g .entry)) at sr other (emacOf macsr mask (now (acc .entry))) (mapped (now (mem .entry))) op ⌝ }
 {
     match row {
         rows::MOVEA_B..=rows::MOVE_B => move_line(1, row, g, at, sr, mem, op),

@@ -1,12 +1,13 @@
 // A change done in place, where it has nothing more to do than to store.
 use manual::Action;
 use manual::Change;
+use manual::Stored;
 use memory::store;
 use word::registers::coded;
 use word::registers::write;
 ghost use mathlib.Core.Path.{_≡_};
-ghost use mathlib.Core.List.{List};
 ghost use Prim.Native.Nat.{ℕ};
+ghost use Rattle.manual.specs.Memory.{Memory, mapped, storageOf};
 ghost use Rattle.inplace.specs.Effects.{after, agreed};
 
 // Done, with the next address and the status register; or left undone, with nothing changed.
@@ -17,7 +18,7 @@ pub enum Effect {
 
 // A change with nothing more to do, whatever the memory.
 pub fn settled(g: &mut [u32; 16], sr: u16, c: Change) -> Effect
-    ensures { λ e. ⌜ ((m : List ℕ) → after e (now (g .exit)) m ≡ agreed e c sr (now (g .entry)) m) ⌝ }
+    ensures { λ e. ⌜ ((m : Memory) → after e (now (g .exit)) (storageOf m) ≡ agreed e c sr (now (g .entry)) m) ⌝ }
 {
     let first = c.first;
     let second = c.second;
@@ -32,7 +33,7 @@ pub fn settled(g: &mut [u32; 16], sr: u16, c: Change) -> Effect
 
 // A change with a store.
 pub fn stored(g: &mut [u32; 16], mem: &mut [u8], sr: u16, c: Change) -> Effect
-    ensures { λ e. ⌜ after e (now (g .exit)) (now (mem .exit)) ≡ agreed e c sr (now (g .entry)) (now (mem .entry)) ⌝ }
+    ensures { λ e. ⌜ after e (now (g .exit)) (now (mem .exit)) ≡ agreed e c sr (now (g .entry)) (mapped (now (mem .entry))) ⌝ }
 {
     let first = c.first;
     let second = c.second;
@@ -40,7 +41,7 @@ pub fn stored(g: &mut [u32; 16], mem: &mut [u8], sr: u16, c: Change) -> Effect
     let Action::Store(a, z, v) = action else {
         return Effect::Left;
     };
-    if !store(mem, a, z, v) {
+    if let Stored::Fault(_) = store(mem, a, z, v) {
         return Effect::Left;
     }
     write(g, first);
@@ -50,7 +51,7 @@ pub fn stored(g: &mut [u32; 16], mem: &mut [u8], sr: u16, c: Change) -> Effect
 
 // Any change, where that is all it does.
 pub fn carried_out(g: &mut [u32; 16], mem: &mut [u8], sr: u16, c: Change) -> Effect
-    ensures { λ e. ⌜ after e (now (g .exit)) (now (mem .exit)) ≡ agreed e c sr (now (g .entry)) (now (mem .entry)) ⌝ }
+    ensures { λ e. ⌜ after e (now (g .exit)) (now (mem .exit)) ≡ agreed e c sr (now (g .entry)) (mapped (now (mem .entry))) ⌝ }
 {
     let action = c.action;
     match action {

@@ -37,10 +37,11 @@ use line4status::to_usp;
 use manual::Change;
 ghost use mathlib.Core.Path.{_≡_};
 ghost use Prim.Native.Nat.{_+_, _*_, _/_, _%_, _<_};
+ghost use Rattle.manual.specs.Memory.{mapped};
 ghost use Rattle.instructions.specs.Line4.{line4 as line4Of};
 
 pub fn line4(row: u8, g: &[u32; 16], at: u32, sr: u16, other: u32, mem: &[u8], op: u32) -> Change
-    ensures { λ e. ⌜ e ≡ line4Of row (now (g .entry)) at sr other (now (mem .entry)) op ⌝ }
+    ensures { λ e. ⌜ e ≡ line4Of row (now (g .entry)) at sr other (mapped (now (mem .entry))) op ⌝ }
 {
     match row {
         rows::NOP => nop(at, sr),

@@ -14,6 +14,7 @@ use Rattle.manual.specs.Address.{operand, extension, control}
 use Rattle.manual.specs.Registers.{noWrite, writeAddress}
 use Rattle.manual.specs.Flags.{keptCodes}
 use Rattle.manual.specs.Change.{done, push, jump, illegal, refused, reaching}
+use Rattle.manual.specs.Memory.{Memory}
 use Rattle.instructions.specs.Line4.{lea, pea, jsr, jmp}
 use Rattle.line4control.specs.declared.Way.{Way}
 use Rattle.line4control.specs.declared.Way.the-variants.{To, Ends}
@@ -23,7 +24,7 @@ wayBy sr at next (At (Value a)) = To a next
 wayBy sr at next (At (NoValue x)) = Ends (refused x)
 wayBy sr at next NoAddress = Ends (illegal at sr)
 
-unfoldable pub aim : List ℕ → ℕ → ℕ → List ℕ → ℕ → Way
+unfoldable pub aim : List ℕ → ℕ → ℕ → Memory → ℕ → Way
 aim g at sr m op =
     let pc : ℕ = plus at 2 in
     let target : Operand = operand (op / 8 % 8) (op % 8) in
@@ -39,7 +40,7 @@ by-way sr at next (At (Value a)) f = refl
 by-way sr at next (At (NoValue x)) f = refl
 by-way sr at next NoAddress f = refl
 
-pub goes : (g : List ℕ) (at sr : ℕ) (m : List ℕ) (op : ℕ) (f : ℕ → ℕ → Change) →
+pub goes : (g : List ℕ) (at sr : ℕ) (m : Memory) (op : ℕ) (f : ℕ → ℕ → Change) →
     reaching sr at (control g m (plus at 2) (operand (op / 8 % 8) (op % 8)))
     (λ a. f a (plus (plus at 2) (extension (operand (op / 8 % 8) (op % 8)) Long)))
     ≡ along (aim g at sr m op) f
@@ -48,7 +49,7 @@ goes g at sr m op f =
     by-way sr at (plus (plus at 2) (extension (operand (op / 8 % 8) (op % 8)) Long))
     (control g m (plus at 2) (operand (op / 8 % 8) (op % 8))) f
 
-module _ (g : List ℕ) (at sr : ℕ) (m : List ℕ) (op : ℕ) where
+module _ (g : List ℕ) (at sr : ℕ) (m : Memory) (op : ℕ) where
   pub lea-goes : lea g at sr m op ≡ along (aim g at sr m op) (λ a next. done next (keptCodes sr) noWrite (writeAddress (op / 512) a))
   unfolding lea
   lea-goes = goes g at sr m op (λ a next. done next (keptCodes sr) noWrite (writeAddress (op / 512) a))

@@ -26,6 +26,7 @@ use word::word::plus;
 use word::word::sign_extended;
 ghost use mathlib.Core.Path.{_≡_};
 ghost use Prim.Native.Nat.{_+_, _*_, _/_, _%_, _<_};
+ghost use Rattle.manual.specs.Memory.{mapped};
 ghost use Rattle.manual.specs.Registers.{noWrite};
 ghost use Rattle.manual.specs.Change.{acting as actingOf};
 ghost use Rattle.line4control.specs.Aimed.{aim as aimOf};
@@ -44,7 +45,7 @@ pub enum Way {
 }
 
 fn aim(g: &[u32; 16], at: u32, sr: u16, mem: &[u8], op: u32) -> Way
-    ensures { λ w. ⌜ w ≡ aimOf (now (g .entry)) at sr (now (mem .entry)) op ⌝ }
+    ensures { λ w. ⌜ w ≡ aimOf (now (g .entry)) at sr (mapped (now (mem .entry))) op ⌝ }
 {
     let pc = plus(at, 2);
     let target = operand(op / 8 % 8, op % 8);
@@ -58,7 +59,7 @@ fn aim(g: &[u32; 16], at: u32, sr: u16, mem: &[u8], op: u32) -> Way
 }
 
 pub fn lea(g: &[u32; 16], at: u32, sr: u16, mem: &[u8], op: u32) -> Change
-    ensures { λ e. ⌜ e ≡ leaOf (now (g .entry)) at sr (now (mem .entry)) op ⌝ }
+    ensures { λ e. ⌜ e ≡ leaOf (now (g .entry)) at sr (mapped (now (mem .entry))) op ⌝ }
 {
     let codes = kept_codes(sr);
     let none = no_write();
@@ -69,7 +70,7 @@ pub fn lea(g: &[u32; 16], at: u32, sr: u16, mem: &[u8], op: u32) -> Change
 }
 
 pub fn pea(g: &[u32; 16], at: u32, sr: u16, mem: &[u8], op: u32) -> Change
-    ensures { λ e. ⌜ e ≡ peaOf (now (g .entry)) at sr (now (mem .entry)) op ⌝ }
+    ensures { λ e. ⌜ e ≡ peaOf (now (g .entry)) at sr (mapped (now (mem .entry))) op ⌝ }
 {
     match aim(g, at, sr, mem, op) {
         Way::To(a, next) => push(g, sr, next, a),
@@ -78,7 +79,7 @@ pub fn pea(g: &[u32; 16], at: u32, sr: u16, mem: &[u8], op: u32) -> Change
 }
 
 pub fn jsr(g: &[u32; 16], at: u32, sr: u16, mem: &[u8], op: u32) -> Change
-    ensures { λ e. ⌜ e ≡ jsrOf (now (g .entry)) at sr (now (mem .entry)) op ⌝ }
+    ensures { λ e. ⌜ e ≡ jsrOf (now (g .entry)) at sr (mapped (now (mem .entry))) op ⌝ }
 {
     match aim(g, at, sr, mem, op) {
         Way::To(a, next) => push(g, sr, a, next),
@@ -87,7 +88,7 @@ pub fn jsr(g: &[u32; 16], at: u32, sr: u16, mem: &[u8], op: u32) -> Change
 }
 
 pub fn jmp(g: &[u32; 16], at: u32, sr: u16, mem: &[u8], op: u32) -> Change
-    ensures { λ e. ⌜ e ≡ jmpOf (now (g .entry)) at sr (now (mem .entry)) op ⌝ }
+    ensures { λ e. ⌜ e ≡ jmpOf (now (g .entry)) at sr (mapped (now (mem .entry))) op ⌝ }
 {
     match aim(g, at, sr, mem, op) {
         Way::To(a, _) => jump(sr, a),
@@ -96,7 +97,7 @@ pub fn jmp(g: &[u32; 16], at: u32, sr: u16, mem: &[u8], op: u32) -> Change
 }
 
 pub fn rts(g: &[u32; 16], sr: u16, mem: &[u8]) -> Change
-    ensures { λ e. ⌜ e ≡ rtsOf (now (g .entry)) sr (now (mem .entry)) ⌝ }
+    ensures { λ e. ⌜ e ≡ rtsOf (now (g .entry)) sr (mapped (now (mem .entry))) ⌝ }
 {
     let sp = address(g, 7);
     let v = match load(mem, sp, Size::Long) {
@@ -116,7 +117,7 @@ pub fn trap(at: u32, sr: u16, op: u32) -> Change
 }
 
 pub fn link(g: &[u32; 16], at: u32, sr: u16, mem: &[u8], op: u32) -> Change
-    ensures { λ e. ⌜ e ≡ linkOf (now (g .entry)) at sr (now (mem .entry)) op ⌝ }
+    ensures { λ e. ⌜ e ≡ linkOf (now (g .entry)) at sr (mapped (now (mem .entry))) op ⌝ }
 {
     let pc = plus(at, 2);
     let sp = minus(address(g, 7), 4);
@@ -132,7 +133,7 @@ pub fn link(g: &[u32; 16], at: u32, sr: u16, mem: &[u8], op: u32) -> Change
 }
 
 pub fn unlk(g: &[u32; 16], at: u32, sr: u16, mem: &[u8], op: u32) -> Change
-    ensures { λ e. ⌜ e ≡ unlkOf (now (g .entry)) at sr (now (mem .entry)) op ⌝ }
+    ensures { λ e. ⌜ e ≡ unlkOf (now (g .entry)) at sr (mapped (now (mem .entry))) op ⌝ }
 {
     let a = address(g, op);
     let v = match load(mem, a, Size::Long) {
@@ -157,7 +158,7 @@ fn many(storing: bool, sr: u16, next: u32, mask: u32, a: u32) -> Change
 }
 
 pub fn movem(storing: bool, g: &[u32; 16], at: u32, sr: u16, mem: &[u8], op: u32) -> Change
-    ensures { λ e. ⌜ e ≡ moveMany storing (now (g .entry)) at sr (now (mem .entry)) op ⌝ }
+    ensures { λ e. ⌜ e ≡ moveMany storing (now (g .entry)) at sr (mapped (now (mem .entry))) op ⌝ }
 {
     let pc = plus(at, 2);
     let a = address(g, op);

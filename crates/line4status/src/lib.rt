@@ -23,6 +23,7 @@ use word::word::plus;
 ghost use mathlib.Core.Path.{_≡_};
 ghost use mathlib.Core.Bool.{cond};
 ghost use Prim.Native.Nat.{_+_, _*_, _/_, _%_, _<_};
+ghost use Rattle.manual.specs.Memory.{mapped};
 ghost use Rattle.manual.specs.Exceptions.{supervisor};
 ghost use Rattle.manual.specs.Change.{privilege as privilegeOf};
 ghost use Rattle.instructions.specs.Line4.{rte as rteOf, stop as stopOf, stldsr as stldsrOf, halt as haltOf, toUsp, fromUsp, fromSr, toSr, fromCcr, toCcr};
@@ -46,7 +47,7 @@ pub fn rte(at: u32, sr: u16) -> Change
 }
 
 pub fn stop(at: u32, sr: u16, mem: &[u8]) -> Change
-    ensures { λ e. ⌜ e ≡ stopOf at sr (now (mem .entry)) ⌝ }
+    ensures { λ e. ⌜ e ≡ stopOf at sr (mapped (now (mem .entry))) ⌝ }
 {
     let pc = plus(at, 2);
     let v = match load(mem, pc, Size::Word) {
@@ -58,7 +59,7 @@ pub fn stop(at: u32, sr: u16, mem: &[u8]) -> Change
 }
 
 pub fn stldsr(at: u32, sr: u16, mem: &[u8]) -> Change
-    ensures { λ e. ⌜ e ≡ stldsrOf at sr (now (mem .entry)) ⌝ }
+    ensures { λ e. ⌜ e ≡ stldsrOf at sr (mapped (now (mem .entry))) ⌝ }
 {
     let pc = plus(at, 2);
     let w = match load(mem, pc, Size::Word) {
@@ -114,7 +115,7 @@ pub fn from_sr(g: &[u32; 16], at: u32, sr: u16, op: u32) -> Change
 }
 
 pub fn to_sr(g: &[u32; 16], at: u32, sr: u16, mem: &[u8], op: u32) -> Change
-    ensures { λ e. ⌜ e ≡ toSr (now (g .entry)) at sr (now (mem .entry)) op ⌝ }
+    ensures { λ e. ⌜ e ≡ toSr (now (g .entry)) at sr (mapped (now (mem .entry))) op ⌝ }
 {
     let from = source(g, mem, plus(at, 2), op, Size::Word);
     let got = from.got;
@@ -142,7 +143,7 @@ pub fn from_ccr(g: &[u32; 16], at: u32, sr: u16, op: u32) -> Change
 }
 
 pub fn to_ccr(g: &[u32; 16], at: u32, mem: &[u8], op: u32) -> Change
-    ensures { λ e. ⌜ e ≡ toCcr (now (g .entry)) at (now (mem .entry)) op ⌝ }
+    ensures { λ e. ⌜ e ≡ toCcr (now (g .entry)) at (mapped (now (mem .entry))) op ⌝ }
 {
     let from = source(g, mem, plus(at, 2), op, Size::Word);
     let got = from.got;

@@ -21,6 +21,7 @@ use word::word::plus;
 use word::word::sign_extended;
 ghost use mathlib.Core.Path.{_≡_};
 ghost use Prim.Native.Nat.{_+_, _*_, _/_, _%_, _<_};
+ghost use Rattle.manual.specs.Memory.{mapped};
 ghost use Rattle.instructions.specs.LineA.{macRegisters, loadMoves, loadAddress, macLoad, macWithLoad, mac as macOf};
 
 fn mac_registers(g: &[u32; 16], at: u32, sr: u16, op: u32, w: u32) -> Change
@@ -68,7 +69,7 @@ fn mac_load(
     w: u32,
     base: u32,
 ) -> Change
-    ensures { λ e. ⌜ e ≡ macLoad (now (g .entry)) next sr mask (now (mem .entry)) op w base ⌝ }
+    ensures { λ e. ⌜ e ≡ macLoad (now (g .entry)) next sr mask (mapped (now (mem .entry))) op w base ⌝ }
 {
     let a = load_address(mask, w, base);
     let v = match load(mem, a, Size::Long) {
@@ -91,7 +92,7 @@ fn mac_load(
 }
 
 fn mac_with_load(g: &[u32; 16], at: u32, sr: u16, mask: u32, mem: &[u8], op: u32, w: u32) -> Change
-    ensures { λ e. ⌜ e ≡ macWithLoad (now (g .entry)) at sr mask (now (mem .entry)) op w ⌝ }
+    ensures { λ e. ⌜ e ≡ macWithLoad (now (g .entry)) at sr mask (mapped (now (mem .entry))) op w ⌝ }
 {
     let mode = op / 8 % 8;
     let a = address(g, op);
@@ -118,7 +119,7 @@ fn mac_with_load(g: &[u32; 16], at: u32, sr: u16, mask: u32, mem: &[u8], op: u32
 }
 
 pub(crate) fn mac(g: &[u32; 16], at: u32, sr: u16, mask: u32, mem: &[u8], op: u32) -> Change
-    ensures { λ e. ⌜ e ≡ macOf (now (g .entry)) at sr mask (now (mem .entry)) op ⌝ }
+    ensures { λ e. ⌜ e ≡ macOf (now (g .entry)) at sr mask (mapped (now (mem .entry))) op ⌝ }
 {
     let w = match load(mem, plus(at, 2), Size::Word) {
         Got::Value(w) => w,

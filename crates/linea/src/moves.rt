@@ -23,6 +23,7 @@ use word::registers::write_general;
 use word::word::plus;
 ghost use mathlib.Core.Path.{_≡_};
 ghost use Prim.Native.Nat.{_+_, _*_, _/_, _%_, _<_};
+ghost use Rattle.manual.specs.Memory.{mapped};
 ghost use Rattle.instructions.specs.LineA.{macsrToCcr, toGeneral, copy as copyOf, setting as settingOf, toEmac, threeBits, moveThree, unassigned as unassignedOf};
 
 pub(crate) fn macsr_to_ccr(at: u32, macsr: u32) -> Change
@@ -75,7 +76,7 @@ pub(crate) fn to_emac(
     mem: &[u8],
     op: u32,
 ) -> Change
-    ensures { λ e. ⌜ e ≡ toEmac part (now (g .entry)) at sr (now (mem .entry)) op ⌝ }
+    ensures { λ e. ⌜ e ≡ toEmac part (now (g .entry)) at sr (mapped (now (mem .entry))) op ⌝ }
 {
     let from = source(g, mem, plus(at, 2), op, Size::Long);
     let got = from.got;
@@ -96,7 +97,7 @@ fn three_bits(op: u32) -> u32
 }
 
 pub(crate) fn mov3q(g: &[u32; 16], at: u32, sr: u16, mem: &[u8], op: u32) -> Change
-    ensures { λ e. ⌜ e ≡ moveThree (now (g .entry)) at sr (now (mem .entry)) op ⌝ }
+    ensures { λ e. ⌜ e ≡ moveThree (now (g .entry)) at sr (mapped (now (mem .entry))) op ⌝ }
 {
     let target = operand(op / 8 % 8, op % 8);
     let pc = plus(at, 2);
@@ -109,7 +110,7 @@ pub(crate) fn mov3q(g: &[u32; 16], at: u32, sr: u16, mem: &[u8], op: u32) -> Cha
 }
 
 pub(crate) fn unassigned(g: &[u32; 16], at: u32, sr: u16, mem: &[u8], op: u32) -> Change
-    ensures { λ e. ⌜ e ≡ unassignedOf (now (g .entry)) at sr (now (mem .entry)) op ⌝ }
+    ensures { λ e. ⌜ e ≡ unassignedOf (now (g .entry)) at sr (mapped (now (mem .entry))) op ⌝ }
 {
     let from = source(g, mem, plus(at, 2), op, Size::Long);
     let got = from.got;

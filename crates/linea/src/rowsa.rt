@@ -21,6 +21,7 @@ use word::word::plus;
 ghost use mathlib.Core.Path.{_≡_};
 ghost use Prim.Native.Nat.{_+_, _*_, _/_, _%_, _<_};
 ghost use Rattle.instructions.specs.LineA.{toGeneral, pair, fromAcc, lineA as lineAOf};
+ghost use Rattle.manual.specs.Memory.{mapped};
 ghost use Rattle.manual.specs.Emac.{emacOf, has, readExt};
 
 // The unit of its parts. Few rows look at all of it, so that it is put together for them alone.
@@ -68,7 +69,7 @@ pub fn linea(
     mem: &[u8],
     op: u32,
 ) -> Change
-    ensures { λ e. ⌜ e ≡ lineAOf row (now (g .entry)) at sr (emacOf macsr mask (now (acc .entry))) (now (mem .entry)) op ⌝ }
+    ensures { λ e. ⌜ e ≡ lineAOf row (now (g .entry)) at sr (emacOf macsr mask (now (acc .entry))) (mapped (now (mem .entry))) op ⌝ }
 {
     match row {
         rows::MACSR_CCR => macsr_to_ccr(at, macsr),

@@ -11,6 +11,7 @@ use lib.ListN.{getD, List·getD-eq-default}
 use Rattle.manual.specs.declared.Size.{Size}
 use Rattle.manual.specs.declared.Size.the-variants.{Byte, Word, Long}
 use Rattle.manual.specs.declared.Change.{Change}
+use Rattle.manual.specs.Memory.{Memory}
 use Rattle.instructions.specs.Rows.{placeIn}
 use Rattle.instructions.specs.Moves.{move, moveAddress, line1, line2, line3}
 
@@ -20,7 +21,7 @@ moveSize line = cond (eqb line 1) Byte (cond (eqb line 2) Long Word)
 unfoldable pub moveaRow : ℕ → ℕ
 moveaRow line = cond (eqb line 1) 14 (cond (eqb line 2) 16 18)
 
-unfoldable pub moveLine : ℕ → ℕ → List ℕ → ℕ → ℕ → List ℕ → ℕ → Change
+unfoldable pub moveLine : ℕ → ℕ → List ℕ → ℕ → ℕ → Memory → ℕ → Change
 moveLine line row g at sr m op = cond (eqb line 1) (line1 row g at sr m op) (cond (eqb line 2) (line2 row g at sr m op) (line3 row g at sr m op))
 
 -- a line of two rows, by its first
@@ -38,7 +39,7 @@ by-first first row x y = go (decLt row first) (decLt first row)
         let q : row - first ≡ 0 = omega (arith, e) in
         rw (eq-eqb row first e, le-ltb row first (omega (arith, n)), q) refl
 
-module _ (row : ℕ) (g : List ℕ) (at sr : ℕ) (m : List ℕ) (op : ℕ) where
+module _ (row : ℕ) (g : List ℕ) (at sr : ℕ) (m : Memory) (op : ℕ) where
   by-size : (b c : Bool)
       → let z : Size = cond b Byte (cond c Long Word) in
       cond (eqb row (cond b 14 (cond c 16 18))) (moveAddress z g at sr m op) (move z g at sr m op)

@@ -34,6 +34,7 @@ use word::registers::write_data;
 use word::word::plus;
 ghost use mathlib.Core.Path.{_≡_};
 ghost use Prim.Native.Nat.{_+_, _*_, _/_, _%_, _<_};
+ghost use Rattle.manual.specs.Memory.{mapped};
 ghost use Rattle.instructions.specs.Line0.{bitReverse, byteReverse, findFirstOne, logicImmediate, sumImmediate, compareImmediate, bitOfData, bitOfByte, bitOperation, bitByRegister, bitByImmediate, line0 as line0Of};
 
 fn bitrev(g: &[u32; 16], at: u32, sr: u16, op: u32) -> Change
@@ -75,7 +76,7 @@ fn ff1(g: &[u32; 16], at: u32, sr: u16, op: u32) -> Change
 }
 
 pub fn logic_immediate(l: Logic, g: &[u32; 16], at: u32, sr: u16, mem: &[u8], op: u32) -> Change
-    ensures { λ e. ⌜ e ≡ logicImmediate l (now (g .entry)) at sr (now (mem .entry)) op ⌝ }
+    ensures { λ e. ⌜ e ≡ logicImmediate l (now (g .entry)) at sr (mapped (now (mem .entry))) op ⌝ }
 {
     let pc = plus(at, 2);
     let v = match load(mem, pc, Size::Long) {
@@ -90,7 +91,7 @@ pub fn logic_immediate(l: Logic, g: &[u32; 16], at: u32, sr: u16, mem: &[u8], op
 }
 
 pub fn sum_immediate(add: bool, g: &[u32; 16], at: u32, mem: &[u8], op: u32) -> Change
-    ensures { λ e. ⌜ e ≡ sumImmediate add (now (g .entry)) at (now (mem .entry)) op ⌝ }
+    ensures { λ e. ⌜ e ≡ sumImmediate add (now (g .entry)) at (mapped (now (mem .entry))) op ⌝ }
 {
     let pc = plus(at, 2);
     let v = match load(mem, pc, Size::Long) {
@@ -105,7 +106,7 @@ pub fn sum_immediate(add: bool, g: &[u32; 16], at: u32, mem: &[u8], op: u32) -> 
 }
 
 fn cmpi(z: Size, g: &[u32; 16], at: u32, sr: u16, mem: &[u8], op: u32) -> Change
-    ensures { λ e. ⌜ e ≡ compareImmediate z (now (g .entry)) at sr (now (mem .entry)) op ⌝ }
+    ensures { λ e. ⌜ e ≡ compareImmediate z (now (g .entry)) at sr (mapped (now (mem .entry))) op ⌝ }
 {
     let pc = plus(at, 2);
     let v = match value(g, mem, pc, Operand::Immediate, z) {
@@ -135,7 +136,7 @@ pub fn bit_of_data(g: &[u32; 16], pc: u32, sr: u16, op: u32, n: u32) -> Change
 }
 
 fn bit_of_byte(g: &[u32; 16], pc: u32, sr: u16, mem: &[u8], op: u32, n: u32) -> Change
-    ensures { λ e. ⌜ e ≡ bitOfByte (now (g .entry)) pc sr (now (mem .entry)) op n ⌝ }
+    ensures { λ e. ⌜ e ≡ bitOfByte (now (g .entry)) pc sr (mapped (now (mem .entry))) op n ⌝ }
 {
     let target = operand(op / 8 % 8, op % 8);
     let place = locate(g, mem, pc, target, Size::Byte);
@@ -157,7 +158,7 @@ fn bit_of_byte(g: &[u32; 16], pc: u32, sr: u16, mem: &[u8], op: u32, n: u32) -> 
 }
 
 fn bitop(g: &[u32; 16], pc: u32, sr: u16, mem: &[u8], op: u32, n: u32) -> Change
-    ensures { λ e. ⌜ e ≡ bitOperation (now (g .entry)) pc sr (now (mem .entry)) op n ⌝ }
+    ensures { λ e. ⌜ e ≡ bitOperation (now (g .entry)) pc sr (mapped (now (mem .entry))) op n ⌝ }
 {
     if op / 8 % 8 == 0 {
         bit_of_data(g, pc, sr, op, n)
@@ -167,13 +168,13 @@ fn bitop(g: &[u32; 16], pc: u32, sr: u16, mem: &[u8], op: u32, n: u32) -> Change
 }
 
 fn bit_by_register(g: &[u32; 16], at: u32, sr: u16, mem: &[u8], op: u32) -> Change
-    ensures { λ e. ⌜ e ≡ bitByRegister (now (g .entry)) at sr (now (mem .entry)) op ⌝ }
+    ensures { λ e. ⌜ e ≡ bitByRegister (now (g .entry)) at sr (mapped (now (mem .entry))) op ⌝ }
 {
     bitop(g, plus(at, 2), sr, mem, op, data(g, op / 512))
 }
 
 fn bit_by_immediate(g: &[u32; 16], at: u32, sr: u16, mem: &[u8], op: u32) -> Change
-    ensures { λ e. ⌜ e ≡ bitByImmediate (now (g .entry)) at sr (now (mem .entry)) op ⌝ }
+    ensures { λ e. ⌜ e ≡ bitByImmediate (now (g .entry)) at sr (mapped (now (mem .entry))) op ⌝ }
 {
     let n = match load(mem, plus(at, 2), Size::Word) {
         Got::Value(n) => n,
@@ -183,7 +184,7 @@ fn bit_by_immediate(g: &[u32; 16], at: u32, sr: u16, mem: &[u8], op: u32) -> Cha
 }
 
 pub fn line0(row: u8, g: &[u32; 16], at: u32, sr: u16, mem: &[u8], op: u32) -> Change
-    ensures { λ e. ⌜ e ≡ line0Of row (now (g .entry)) at sr (now (mem .entry)) op ⌝ }
+    ensures { λ e. ⌜ e ≡ line0Of row (now (g .entry)) at sr (mapped (now (mem .entry))) op ⌝ }
 {
     match row {
         rows::BITREV => bitrev(g, at, sr, op),

@@ -24,6 +24,7 @@ use word::word::plus;
 use word::word::sign_extended;
 ghost use mathlib.Core.Path.{_≡_};
 ghost use Prim.Native.Nat.{_+_, _*_, _/_, _%_, _<_};
+ghost use Rattle.manual.specs.Memory.{mapped};
 ghost use Rattle.manual.specs.Registers.{written as writtenOf};
 ghost use Rattle.instructions.specs.Moves.{moveTo, move as moveOf, moveAddress};
 ghost use Rattle.lines0to3.specs.MoveLines.{moveSize, moveaRow, moveLine};
@@ -38,7 +39,7 @@ fn move_to(
     o: Operand,
     v: u32,
 ) -> Change
-    ensures { λ e. ⌜ e ≡ moveTo z (now (g .entry)) sr (now (mem .entry)) pc first o v ⌝ }
+    ensures { λ e. ⌜ e ≡ moveTo z (now (g .entry)) sr (mapped (now (mem .entry))) pc first o v ⌝ }
 {
     let place = locate(g, mem, pc, o, z);
     let codes = move_codes(z, v, sr);
@@ -56,7 +57,7 @@ fn written(g: &[u32; 16], w: Write) -> [u32; 16]
 }
 
 fn op_move(z: Size, g: &[u32; 16], at: u32, sr: u16, mem: &[u8], op: u32) -> Change
-    ensures { λ e. ⌜ e ≡ moveOf z (now (g .entry)) at sr (now (mem .entry)) op ⌝ }
+    ensures { λ e. ⌜ e ≡ moveOf z (now (g .entry)) at sr (mapped (now (mem .entry))) op ⌝ }
 {
     let from = source(g, mem, plus(at, 2), op, z);
     let got = from.got;
@@ -79,7 +80,7 @@ fn op_move(z: Size, g: &[u32; 16], at: u32, sr: u16, mem: &[u8], op: u32) -> Cha
 }
 
 fn op_movea(z: Size, g: &[u32; 16], at: u32, sr: u16, mem: &[u8], op: u32) -> Change
-    ensures { λ e. ⌜ e ≡ moveAddress z (now (g .entry)) at sr (now (mem .entry)) op ⌝ }
+    ensures { λ e. ⌜ e ≡ moveAddress z (now (g .entry)) at sr (mapped (now (mem .entry))) op ⌝ }
 {
     let from = source(g, mem, plus(at, 2), op, z);
     let got = from.got;
@@ -117,7 +118,7 @@ fn movea_row(line: u8) -> u8
 
 // Lines 1, 2 and 3. Their bodies have one caller, so that a compiler puts them into the loop.
 pub fn move_line(line: u8, row: u8, g: &[u32; 16], at: u32, sr: u16, mem: &[u8], op: u32) -> Change
-    ensures { λ e. ⌜ e ≡ moveLine line row (now (g .entry)) at sr (now (mem .entry)) op ⌝ }
+    ensures { λ e. ⌜ e ≡ moveLine line row (now (g .entry)) at sr (mapped (now (mem .entry))) op ⌝ }
 {
     let z = move_size(line);
     if row == movea_row(line) {

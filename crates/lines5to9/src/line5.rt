@@ -21,6 +21,7 @@ use word::word::size_of;
 ghost use mathlib.Core.Path.{_≡_};
 ghost use Prim.Native.Nat.{_+_, _*_, _/_, _%_, _<_};
 ghost use Rattle.instructions.specs.Line5.{quickNumber, quickAdds, quickAddress, quickData, quick as quickOf, setByCondition, skip as skipOf, line5 as line5Of};
+ghost use Rattle.manual.specs.Memory.{mapped};
 ghost use Rattle.manual.specs.Differences.{anySize};
 
 pub fn quick_number(op: u32) -> u32
@@ -53,7 +54,7 @@ fn quick_data(g: &[u32; 16], at: u32, op: u32) -> Change
 }
 
 fn quick(g: &[u32; 16], at: u32, mem: &[u8], op: u32) -> Change
-    ensures { λ e. ⌜ e ≡ quickOf (now (g .entry)) at (now (mem .entry)) op ⌝ }
+    ensures { λ e. ⌜ e ≡ quickOf (now (g .entry)) at (mapped (now (mem .entry))) op ⌝ }
 {
     if op / 8 % 8 == 0 {
         quick_data(g, at, op)
@@ -95,7 +96,7 @@ fn skip(n: u32, at: u32, sr: u16) -> Change
 }
 
 pub fn line5(row: u8, g: &[u32; 16], at: u32, sr: u16, mem: &[u8], op: u32) -> Change
-    ensures { λ e. ⌜ e ≡ line5Of row (now (g .entry)) at sr (now (mem .entry)) op ⌝ }
+    ensures { λ e. ⌜ e ≡ line5Of row (now (g .entry)) at sr (mapped (now (mem .entry))) op ⌝ }
 {
     match row {
         rows::TPF_W => skip(2, at, sr),

@@ -12,10 +12,11 @@ use word::word::plus;
 use word::word::sign_extended;
 ghost use mathlib.Core.Path.{_≡_};
 ghost use Prim.Native.Nat.{_+_, _*_, _/_, _%_};
+ghost use Rattle.manual.specs.Memory.{mapped};
 ghost use Rattle.instructions.specs.Line6.{displacement as displacementOf, displacementBytes, bra as braOf, bsr as bsrOf, bcc as bccOf, line6 as line6Of};
 
 fn displacement(mem: &[u8], pc: u32, low: u32) -> Got
-    ensures { λ g. ⌜ g ≡ displacementOf (now (mem .entry)) pc low ⌝ }
+    ensures { λ g. ⌜ g ≡ displacementOf (mapped (now (mem .entry))) pc low ⌝ }
 {
     if low == 0 {
         match load(mem, pc, Size::Word) {
@@ -42,7 +43,7 @@ fn displacement_bytes(low: u32) -> u32
 }
 
 pub fn bra(at: u32, sr: u16, mem: &[u8], op: u32) -> Change
-    ensures { λ e. ⌜ e ≡ braOf at sr (now (mem .entry)) op ⌝ }
+    ensures { λ e. ⌜ e ≡ braOf at sr (mapped (now (mem .entry))) op ⌝ }
 {
     let pc = plus(at, 2);
     let d = match displacement(mem, pc, op % 256) {
@@ -53,7 +54,7 @@ pub fn bra(at: u32, sr: u16, mem: &[u8], op: u32) -> Change
 }
 
 pub fn bsr(g: &[u32; 16], at: u32, sr: u16, mem: &[u8], op: u32) -> Change
-    ensures { λ e. ⌜ e ≡ bsrOf (now (g .entry)) at sr (now (mem .entry)) op ⌝ }
+    ensures { λ e. ⌜ e ≡ bsrOf (now (g .entry)) at sr (mapped (now (mem .entry))) op ⌝ }
 {
     let pc = plus(at, 2);
     let d = match displacement(mem, pc, op % 256) {
@@ -65,7 +66,7 @@ pub fn bsr(g: &[u32; 16], at: u32, sr: u16, mem: &[u8], op: u32) -> Change
 }
 
 fn bcc(at: u32, sr: u16, mem: &[u8], op: u32) -> Change
-    ensures { λ e. ⌜ e ≡ bccOf at sr (now (mem .entry)) op ⌝ }
+    ensures { λ e. ⌜ e ≡ bccOf at sr (mapped (now (mem .entry))) op ⌝ }
 {
     let pc = plus(at, 2);
     let d = match displacement(mem, pc, op % 256) {
@@ -80,7 +81,7 @@ fn bcc(at: u32, sr: u16, mem: &[u8], op: u32) -> Change
 }
 
 pub fn line6(row: u8, g: &[u32; 16], at: u32, sr: u16, mem: &[u8], op: u32) -> Change
-    ensures { λ e. ⌜ e ≡ line6Of row (now (g .entry)) at sr (now (mem .entry)) op ⌝ }
+    ensures { λ e. ⌜ e ≡ line6Of row (now (g .entry)) at sr (mapped (now (mem .entry))) op ⌝ }
 {
     match row {
         rows::BRA => bra(at, sr, mem, op),

@@ -8,6 +8,7 @@ use sums::to_memory;
 use sums::with_x;
 ghost use mathlib.Core.Path.{_≡_};
 ghost use Prim.Native.Nat.{_+_, _*_, _/_, _%_};
+ghost use Rattle.manual.specs.Memory.{mapped};
 ghost use Rattle.instructions.specs.Rows.{placeIn};
 ghost use Rattle.instructions.specs.Line9D.{sums as sumsOf, line9 as line9Of, lineD as lineDOf};
 
@@ -29,7 +30,7 @@ fn by_row(
     mem: &[u8],
     op: u32,
 ) -> Change
-    ensures { λ e. ⌜ e ≡ sumsOf first add row (now (g .entry)) at sr (now (mem .entry)) op ⌝ }
+    ensures { λ e. ⌜ e ≡ sumsOf first add row (now (g .entry)) at sr (mapped (now (mem .entry))) op ⌝ }
 {
     match place_in(first, row) {
         0 => with_x(add, g, at, sr, op),
@@ -46,13 +47,13 @@ fn by_row(
 }
 
 pub fn line9(row: u8, g: &[u32; 16], at: u32, sr: u16, mem: &[u8], op: u32) -> Change
-    ensures { λ e. ⌜ e ≡ line9Of row (now (g .entry)) at sr (now (mem .entry)) op ⌝ }
+    ensures { λ e. ⌜ e ≡ line9Of row (now (g .entry)) at sr (mapped (now (mem .entry))) op ⌝ }
 {
     by_row(rows::SUBX_B, false, row, g, at, sr, mem, op)
 }
 
 pub fn lined(row: u8, g: &[u32; 16], at: u32, sr: u16, mem: &[u8], op: u32) -> Change
-    ensures { λ e. ⌜ e ≡ lineDOf row (now (g .entry)) at sr (now (mem .entry)) op ⌝ }
+    ensures { λ e. ⌜ e ≡ lineDOf row (now (g .entry)) at sr (mapped (now (mem .entry))) op ⌝ }
 {
     by_row(rows::ADDX_B, true, row, g, at, sr, mem, op)
 }

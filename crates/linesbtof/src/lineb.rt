@@ -26,10 +26,11 @@ use word::word::size_of;
 ghost use mathlib.Core.Path.{_≡_};
 ghost use Prim.Native.Nat.{_+_, _*_, _/_, _%_, _<_};
 ghost use Rattle.instructions.specs.LineB.{compareData, compareAddress, logicToPlace, lineB as lineBOf};
+ghost use Rattle.manual.specs.Memory.{mapped};
 ghost use Rattle.manual.specs.Differences.{anySize};
 
 fn cmp(g: &[u32; 16], at: u32, sr: u16, mem: &[u8], op: u32) -> Change
-    ensures { λ e. ⌜ e ≡ compareData (now (g .entry)) at sr (now (mem .entry)) op ⌝ }
+    ensures { λ e. ⌜ e ≡ compareData (now (g .entry)) at sr (mapped (now (mem .entry))) op ⌝ }
 {
     let z = size_of(op / 64);
     let from = source(g, mem, plus(at, 2), op, z);
@@ -46,7 +47,7 @@ fn cmp(g: &[u32; 16], at: u32, sr: u16, mem: &[u8], op: u32) -> Change
 }
 
 fn cmpa(z: Size, g: &[u32; 16], at: u32, sr: u16, mem: &[u8], op: u32) -> Change
-    ensures { λ e. ⌜ e ≡ compareAddress z (now (g .entry)) at sr (now (mem .entry)) op ⌝ }
+    ensures { λ e. ⌜ e ≡ compareAddress z (now (g .entry)) at sr (mapped (now (mem .entry))) op ⌝ }
 {
     let from = source(g, mem, plus(at, 2), op, z);
     let got = from.got;
@@ -70,7 +71,7 @@ pub(crate) fn logic_to_place(
     mem: &[u8],
     op: u32,
 ) -> Change
-    ensures { λ e. ⌜ e ≡ logicToPlace l (now (g .entry)) at sr (now (mem .entry)) op ⌝ }
+    ensures { λ e. ⌜ e ≡ logicToPlace l (now (g .entry)) at sr (mapped (now (mem .entry))) op ⌝ }
 {
     let z = size_of(op / 64);
     let target = operand(op / 8 % 8, op % 8);
@@ -88,7 +89,7 @@ pub(crate) fn logic_to_place(
 }
 
 pub fn lineb(row: u8, g: &[u32; 16], at: u32, sr: u16, mem: &[u8], op: u32) -> Change
-    ensures { λ e. ⌜ e ≡ lineBOf row (now (g .entry)) at sr (now (mem .entry)) op ⌝ }
+    ensures { λ e. ⌜ e ≡ lineBOf row (now (g .entry)) at sr (mapped (now (mem .entry))) op ⌝ }
 {
     match row {
         rows::CMPA_W => cmpa(Size::Word, g, at, sr, mem, op),

@@ -20,10 +20,11 @@ use word::word::size_of;
 ghost use mathlib.Core.Path.{_≡_};
 ghost use Prim.Native.Nat.{_+_, _*_, _/_, _%_, _<_};
 ghost use Rattle.instructions.specs.LineC.{logicToData, product as productOf, multiplyWords, lineC as lineCOf};
+ghost use Rattle.manual.specs.Memory.{mapped};
 ghost use Rattle.manual.specs.Differences.{anySize};
 
 fn logic_to_data(l: Logic, g: &[u32; 16], at: u32, sr: u16, mem: &[u8], op: u32) -> Change
-    ensures { λ e. ⌜ e ≡ logicToData l (now (g .entry)) at sr (now (mem .entry)) op ⌝ }
+    ensures { λ e. ⌜ e ≡ logicToData l (now (g .entry)) at sr (mapped (now (mem .entry))) op ⌝ }
 {
     let z = size_of(op / 64);
     let from = source(g, mem, plus(at, 2), op, z);
@@ -51,7 +52,7 @@ pub fn product(signs: bool, x: u32, y: u32) -> u32
 }
 
 fn mul_w(signs: bool, g: &[u32; 16], at: u32, sr: u16, mem: &[u8], op: u32) -> Change
-    ensures { λ e. ⌜ e ≡ multiplyWords signs (now (g .entry)) at sr (now (mem .entry)) op ⌝ }
+    ensures { λ e. ⌜ e ≡ multiplyWords signs (now (g .entry)) at sr (mapped (now (mem .entry))) op ⌝ }
 {
     let from = source(g, mem, plus(at, 2), op, Size::Word);
     let got = from.got;
@@ -67,7 +68,7 @@ fn mul_w(signs: bool, g: &[u32; 16], at: u32, sr: u16, mem: &[u8], op: u32) -> C
 }
 
 pub fn linec(row: u8, g: &[u32; 16], at: u32, sr: u16, mem: &[u8], op: u32) -> Change
-    ensures { λ e. ⌜ e ≡ lineCOf row (now (g .entry)) at sr (now (mem .entry)) op ⌝ }
+    ensures { λ e. ⌜ e ≡ lineCOf row (now (g .entry)) at sr (mapped (now (mem .entry))) op ⌝ }
 {
     match row {
         rows::MULU_W => mul_w(false, g, at, sr, mem, op),

@@ -21,10 +21,11 @@ use word::word::plus;
 use word::word::size_of;
 ghost use mathlib.Core.Path.{_≡_};
 ghost use Prim.Native.Nat.{_+_, _*_, _/_, _%_, _<_};
+ghost use Rattle.manual.specs.Memory.{mapped};
 ghost use Rattle.instructions.specs.LineF.{writeDebug, cacheLine, writeDebugData, lineF as lineFOf};
 
 fn wdebug(g: &[u32; 16], at: u32, sr: u16, mem: &[u8], op: u32) -> Change
-    ensures { λ e. ⌜ e ≡ writeDebug (now (g .entry)) at sr (now (mem .entry)) op ⌝ }
+    ensures { λ e. ⌜ e ≡ writeDebug (now (g .entry)) at sr (mapped (now (mem .entry))) op ⌝ }
 {
     let target = operand(op / 8 % 8, op % 8);
     let pc = plus(at, 2);
@@ -48,7 +49,7 @@ fn cache_line(at: u32, sr: u16) -> Change
 }
 
 fn wddata(g: &[u32; 16], at: u32, sr: u16, mem: &[u8], op: u32) -> Change
-    ensures { λ e. ⌜ e ≡ writeDebugData (now (g .entry)) at sr (now (mem .entry)) op ⌝ }
+    ensures { λ e. ⌜ e ≡ writeDebugData (now (g .entry)) at sr (mapped (now (mem .entry))) op ⌝ }
 {
     let z = size_of(op / 64);
     let target = operand(op / 8 % 8, op % 8);
@@ -68,7 +69,7 @@ fn wddata(g: &[u32; 16], at: u32, sr: u16, mem: &[u8], op: u32) -> Change
 }
 
 pub fn linef(row: u8, g: &[u32; 16], at: u32, sr: u16, mem: &[u8], op: u32) -> Change
-    ensures { λ e. ⌜ e ≡ lineFOf row (now (g .entry)) at sr (now (mem .entry)) op ⌝ }
+    ensures { λ e. ⌜ e ≡ lineFOf row (now (g .entry)) at sr (mapped (now (mem .entry))) op ⌝ }
 {
     match row {
         rows::WDEBUG => wdebug(g, at, sr, mem, op),

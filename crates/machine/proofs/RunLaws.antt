@@ -21,7 +21,7 @@ use Rattle.manual.specs.declared.Reply.the-variants.{Done, TooLong, NotAdmitted
 use Rattle.manual.specs.declared.Change.{Change}
 use Rattle.manual.specs.declared.Stepped.{Stepped}
 use Rattle.manual.specs.Registers.{withParts}
-use Rattle.manual.specs.Memory.{load}
+use Rattle.manual.specs.Memory.{Storage, Memory, load}
 use Rattle.manual.specs.Change.{refuse, refused}
 use Rattle.manual.specs.Emac.{emacOf}
 use Rattle.manual.specs.Reply.{Outcome, outcome, completed, unchanged, refusal, isDone}
@@ -47,19 +47,19 @@ use Rattle.quick.specs.Attempts.{whole as all, agreedWhole, Attempted, apart}
 
 -- ---- a run over a step, which stays shut
 
-module _ (b k v : ℕ) (whole : Advance) (s : Cpu) (m : List ℕ) (inv : progress (b - k) k v s m ≡ whole) where
+module _ (b k v : ℕ) (whole : Advance) (s : Cpu) (m : Memory) (inv : progress (b - k) k v s m ≡ whole) where
   one-more : k < b → progress (suc (b - (k + 1))) k v s m ≡ whole
   one-more l =
       let q : b - k ≡ suc (b - (k + 1)) = omega arith in
       sym (ap (λ (n : ℕ). progress n k v s m) q) ∙ inv
 
-  pub on : (t : Stepped) (m′ : List ℕ) → k < b → outcome t m′ ≡ step s m → t .reply ≡ Done → progress (b - (k + 1)) (k + 1) (t .vector) (t .cpu) m′ ≡ whole
+  pub on : (t : Stepped) (m′ : Storage) → k < b → outcome t m′ ≡ step s m → t .reply ≡ Done → progress (b - (k + 1)) (k + 1) (t .vector) (t .cpu) m′ ≡ whole
   unfolding progress
   on t m′ l e h =
       let one : progress (suc (b - (k + 1))) k v s m ≡ progress (b - (k + 1)) (k + 1) (t .vector) (t .cpu) m′ = rw (← e, h) in
       sym one ∙ one-more l
 
-  pub stops : (t : Stepped) (m′ : List ℕ) → k < b → outcome t m′ ≡ step s m → isDone (t .reply) ≡ false → advance (endedAs (t .reply) k 0 (t .cpu)) m′ ≡ whole
+  pub stops : (t : Stepped) (m′ : Storage) → k < b → outcome t m′ ≡ step s m → isDone (t .reply) ≡ false → advance (endedAs (t .reply) k 0 (t .cpu)) m′ ≡ whole
   unfolding progress
   stops t m′ l e h =
       let one : progress (suc (b - (k + 1))) k v s m ≡ advance (endedAs (t .reply) k 0 (t .cpu)) m′ = rw (← e, h) in
@@ -97,12 +97,12 @@ pub parts : (s : Cpu) → withParts (s .r) (s .pc) (s .sr) (s .emac) s ≡ s
 unfolding withParts
 parts s = refl
 
-pub starts : (b : ℕ) (s : Cpu) (m : List ℕ) → progress (b - 0) 0 0 (withParts (s .r) (s .pc) (s .sr) (s .emac) s) m ≡ progress b 0 0 s m
+pub starts : (b : ℕ) (s : Cpu) (m : Memory) → progress (b - 0) 0 0 (withParts (s .r) (s .pc) (s .sr) (s .emac) s) m ≡ progress b 0 0 s m
 starts b s m = rw (sub-zero, parts s)
 
 -- ---- a step by the kind of its change
 
-module _ (g : List ℕ) (pc sr : ℕ) (e : Emac) (rest : Cpu) (m : List ℕ) (l : length m ≤ 0x100_0000) (a : admitted (withParts g pc sr e rest) ≡ true) where
+module _ (g : List ℕ) (pc sr : ℕ) (e : Emac) (rest : Cpu) (m : Memory) (l : length m ≤ 0x100_0000) (a : admitted (withParts g pc sr e rest) ≡ true) where
   abbrev state : Cpu
   state = withParts g pc sr e rest
 
@@ -120,12 +120,12 @@ module _ (g : List ℕ) (pc sr : ℕ) (e : Emac) (rest : Cpu) (m : List ℕ) (l 
     unfolding step withParts
     any = rw (le-ltb 0x100_0000 (length m) l, a, w, ← q)
 
-    pub kept : (t : Stepped) (m′ : List ℕ) → outcome t m′ ≡ step state m → admitted (t .cpu) ≡ true
+    pub kept : (t : Stepped) (m′ : Storage) → outcome t m′ ≡ step state m → admitted (t .cpu) ≡ true
     kept t m′ h = ap (λ (o : Outcome). admitted (o .stepped .cpu)) (h ∙ any) ∙ perform-admitted state c m a
 
 -- ---- a turn of the loop, once its word is fetched and its row is known
 
-pub record Turn (b k v : ℕ) (whole : Advance) (g : List ℕ) (pc sr : ℕ) (e : Emac) (rest : Cpu) (m : List ℕ) (op row : ℕ) : Type 0 where
+pub record Turn (b k v : ℕ) (whole : Advance) (g : List ℕ) (pc sr : ℕ) (e : Emac) (rest : Cpu) (m : Memory) (op row : ℕ) : Type 0 where
   pub more : k < b
   pub fit : length m ≤ 0x100_0000
   pub sound : admitted (withParts g pc sr e rest) ≡ true
@@ -134,7 +134,7 @@ pub record Turn (b k v : ℕ) (whole : Advance) (g : List ℕ) (pc sr : ℕ) (e 
   pub is-row : row ≡ rowOf op
   pub inv : progress (b - k) k v (withParts g pc sr e rest) m ≡ whole
 
-module _ (b k v : ℕ) (whole : Advance) (g : List ℕ) (pc sr : ℕ) (e : Emac) (rest : Cpu) (m : List ℕ) (op row : ℕ) (t : Turn b k v whole g pc sr e rest m op row) where
+module _ (b k v : ℕ) (whole : Advance) (g : List ℕ) (pc sr : ℕ) (e : Emac) (rest : Cpu) (m : Memory) (op row : ℕ) (t : Turn b k v whole g pc sr e rest m op row) where
   abbrev now : Cpu
   now = withParts g pc sr e rest
 
@@ -149,23 +149,23 @@ module _ (b k v : ℕ) (whole : Advance) (g : List ℕ) (pc sr : ℕ) (e : Emac)
   is-step = any g pc sr e rest m (t .fit) (t .sound) (t .going) c fetched
 
   -- on the whole state
-  pub performed : (r : Stepped) (m′ : List ℕ) (s : Cpu) → s ≡ now → outcome r m′ ≡ perform s (ofRow row (s .r) (s .pc) (s .sr) (s .other) (s .emac) m op) m
+  pub performed : (r : Stepped) (m′ : Storage) (s : Cpu) → s ≡ now → outcome r m′ ≡ perform s (ofRow row (s .r) (s .pc) (s .sr) (s .other) (s .emac) m op) m
       → outcome r m′ ≡ step now m
   unfolding withParts
   performed r m′ s q h = (rw q at h) ∙ sym is-step
 
-  pub admits : (r : Stepped) (m′ : List ℕ) → outcome r m′ ≡ step now m → admitted (r .cpu) ≡ true
+  pub admits : (r : Stepped) (m′ : Storage) → outcome r m′ ≡ step now m → admitted (r .cpu) ≡ true
   admits r m′ h = kept g pc sr e rest m (t .fit) (t .sound) (t .going) c fetched r m′ h
 
-  pub goes-on : (r : Stepped) (m′ : List ℕ) → outcome r m′ ≡ step now m → r .reply ≡ Done → progress (b - (k + 1)) (k + 1) (r .vector) (r .cpu) m′ ≡ whole
+  pub goes-on : (r : Stepped) (m′ : Storage) → outcome r m′ ≡ step now m → r .reply ≡ Done → progress (b - (k + 1)) (k + 1) (r .vector) (r .cpu) m′ ≡ whole
   goes-on r m′ h d = on b k v whole now m (t .inv) r m′ (t .more) h d
 
-  pub stops-here : (r : Stepped) (m′ : List ℕ) → outcome r m′ ≡ step now m → isDone (r .reply) ≡ false → advance (endedAs (r .reply) k 0 (r .cpu)) m′ ≡ whole
+  pub stops-here : (r : Stepped) (m′ : Storage) → outcome r m′ ≡ step now m → isDone (r .reply) ≡ false → advance (endedAs (r .reply) k 0 (r .cpu)) m′ ≡ whole
   stops-here r m′ h d = stops b k v whole now m (t .inv) r m′ (t .more) h d
 
 -- in parts: what is done in place is the step, and what is left undone leaves the turn as it was
-module _ (b k v : ℕ) (whole : Advance) (g : List ℕ) (pc sr macsr mask : ℕ) (acc : List ℕ) (rest : Cpu) (m : List ℕ) (op row : ℕ)
-    (t : Turn b k v whole g pc sr (emacOf macsr mask acc) rest m op row) (g′ acc′ m′ : List ℕ) where
+module _ (b k v : ℕ) (whole : Advance) (g : List ℕ) (pc sr macsr mask : ℕ) (acc : List ℕ) (rest : Cpu) (m : Memory) (op row : ℕ)
+    (t : Turn b k v whole g pc sr (emacOf macsr mask acc) rest m op row) (g′ acc′ : List ℕ) (m′ : Storage) where
   abbrev unit : Emac
   unit = emacOf macsr mask acc
 
@@ -218,7 +218,7 @@ module _ (b k v : ℕ) (whole : Advance) (g : List ℕ) (pc sr macsr mask : ℕ)
     in-place-plain pc′ sr′ q = as-placed pc′ sr′ (rw q at h, same)
 
 -- a word that is not inside memory
-pub unfetched : (g : List ℕ) (pc sr : ℕ) (e : Emac) (rest : Cpu) (m : List ℕ) (l : length m ≤ 0x100_0000) (a : admitted (withParts g pc sr e rest) ≡ true) (w : rest .stopped ≡ false)
+pub unfetched : (g : List ℕ) (pc sr : ℕ) (e : Emac) (rest : Cpu) (m : Memory) (l : length m ≤ 0x100_0000) (a : admitted (withParts g pc sr e rest) ≡ true) (w : rest .stopped ≡ false)
     (x : Fault) → load m pc Word ≡ NoValue x → (s : Cpu) → s ≡ withParts g pc sr e rest → outcome (refusedAs NotInside s) m ≡ step (withParts g pc sr e rest) m
 unfolding execute refused refuse perform refusal
 unfetched g pc sr e rest m l a w Outside f s q = rw (any g pc sr e rest m l a w (execute g pc sr (rest .other) e m) refl, f, q)
@@ -231,7 +231,7 @@ asRun a = ended (a .came .reply) (a .came .count) (a .came .cpu) (a .memory)
 abbrev after : ℕ → RunOutcome → RunOutcome
 after k r = ended (r .ran .reply) (k + r .ran .count) (r .ran .cpu) (r .memory)
 
-counted : (k j : ℕ) (n : Reply) (s : Cpu) (m : List ℕ) → k ≡ j → ended n k s m ≡ ended n j s m
+counted : (k j : ℕ) (n : Reply) (s : Cpu) (m : Memory) → k ≡ j → ended n k s m ≡ ended n j s m
 counted k j n s m e = ap (λ (i : ℕ). ended n i s m) e
 
 module _ (left k : ℕ) (o : Outcome) where
@@ -247,14 +247,14 @@ module _ (left k : ℕ) (o : Outcome) where
   step-more true h = h ∙ counted (k + 1 + steps-from .ran .count) (k + suc (steps-from .ran .count)) _ _ _ (omega arith)
   step-more false h = counted k (k + 0) (o .stepped .reply) (o .stepped .cpu) (o .memory) (omega arith)
 
-all-steps : (left k v : ℕ) (s : Cpu) (m : List ℕ) → asRun (progress left k v s m) ≡ after k (steps left s m)
+all-steps : (left k v : ℕ) (s : Cpu) (m : Memory) → asRun (progress left k v s m) ≡ after k (steps left s m)
 unfolding progress steps
 all-steps zero k v s m = counted k (k + 0) Done s m (omega arith)
 all-steps (suc left) k v s m =
     let o : Outcome = step s m in
     step-more left k o (isDone (o .stepped .reply)) (all-steps left (k + 1) (o .stepped .vector) (o .stepped .cpu) (o .memory))
 
-pub run-is : (b : ℕ) (s : Cpu) (m m′ : List ℕ) (r : Progress) → advance r m′ ≡ progress b 0 0 s m → ended (r .reply) (r .count) (r .cpu) m′ ≡ steps b s m
+pub run-is : (b : ℕ) (s : Cpu) (m : Memory) (m′ : Storage) (r : Progress) → advance r m′ ≡ progress b 0 0 s m → ended (r .reply) (r .count) (r .cpu) m′ ≡ steps b s m
 run-is b s m m′ r e =
     let n : RunOutcome = steps b s m in
     ap asRun e ∙ all-steps b 0 0 s m ∙ counted (0 + n .ran .count) (n .ran .count) (n .ran .reply) (n .ran .cpu) (n .memory) (omega arith)

@@ -14,7 +14,7 @@ use Rattle.manual.specs.declared.Action.the-variants.{Nothing, Store, StoreMany
 use Rattle.manual.specs.declared.Change.{Change}
 use Rattle.manual.specs.Word.{bytes, plus, minus}
 use Rattle.manual.specs.Registers.{addressOf, withAddress, withRegisters, applied}
-use Rattle.manual.specs.Memory.{inside, numberAt, stored, manyInside, storedMany, loadedMany}
+use Rattle.manual.specs.Memory.{Storage, Memory, inside, numberAt, stored, manyInside, storedMany, loadedMany}
 use Rattle.manual.specs.Reply.{Outcome, outcome, completed, unchanged, refusal, isDone}
 use Rattle.manual.specs.Admitted.{admitted, tooLong}
 use Rattle.manual.specs.Differences.{vectorPlace}
@@ -37,7 +37,7 @@ by-cond : (b : Bool) (x y : Outcome) → Quiet x → Quiet y → Quiet (cond b x
 by-cond true x y p q = p
 by-cond false x y p q = q
 
-quiet-refusal : (s : Cpu) (n : Reply) (m : List ℕ) → Quiet (unchanged s n m)
+quiet-refusal : (s : Cpu) (n : Reply) (m : Memory) → Quiet (unchanged s n m)
 unfolding refusal
 quiet-refusal s Done m = refl
 quiet-refusal s TooLong m = refl
@@ -50,7 +50,7 @@ quiet-refusal s Masked m = refl
 quiet-refusal s WrongVersion m = refl
 quiet-refusal s WrongLength m = refl
 
-module _ (given : Cpu) (m : List ℕ) where
+module _ (given : Cpu) (m : Memory) where
   abbrev no : Outcome
   no = unchanged given NotInside m
 
@@ -62,7 +62,7 @@ module _ (given : Cpu) (m : List ℕ) where
   entered-quiet s level n pc =
       let t : Cpu = setSr (handling level (s .sr)) s in
       let sp : ℕ = addressOf (t .r) 7 in
-      let m′ : List ℕ = framed m sp n (s .sr) pc in
+      let m′ : Storage = framed m sp n (s .sr) pc in
       let place : ℕ = vectorPlace (s .vbr) n in
       let done : Outcome = completed (handlerState t (framePlace sp) (numberAt m′ place Long)) n m′ in
       by-cond (inside m (pcPlace sp) 4) (cond (inside m (framePlace sp) 4) (cond (inside m place 4) done no) no) no
@@ -124,6 +124,6 @@ by-told : (o : Outcome) (b : Bool)
 by-told o true = refl
 by-told o false = refl
 
-pub step-is : (r : Progress) (s : Cpu) (m m′ : List ℕ) → advance r m′ ≡ progress 1 0 0 s m → outcome (record { reply = r .reply; vector = r .vector; cpu = r .cpu }) m′ ≡ step s m
+pub step-is : (r : Progress) (s : Cpu) (m : Memory) (m′ : Storage) → advance r m′ ≡ progress 1 0 0 s m → outcome (record { reply = r .reply; vector = r .vector; cpu = r .cpu }) m′ ≡ step s m
 unfolding progress
 step-is r s m m′ e = ap told e ∙ by-told (step s m) (isDone (step s m .stepped .reply)) ∙ step-quiet s m

@@ -7,6 +7,7 @@ use Rattle.manual.specs.declared.Cpu.{Cpu}
 use Rattle.manual.specs.declared.Reply.{Reply}
 use Rattle.manual.specs.declared.Reply.the-variants.{Done}
 use Rattle.manual.specs.Reply.{Outcome, isDone}
+use Rattle.manual.specs.Memory.{Memory}
 use Rattle.instructions.specs.Step.{step}
 use Rattle.machine.specs.declared.Progress.{Progress}
 
@@ -14,13 +15,13 @@ pub record Advance : Type 0 where
   pub came : Progress
   pub memory : List ℕ
 
-abbrev pub advance : Progress → List ℕ → Advance
+abbrev pub advance : Progress → Memory → Advance
 advance r m = record { came = r; memory = m }
 
 abbrev pub endedAs : Reply → ℕ → ℕ → Cpu → Progress
 endedAs reply count vector s = record { reply = reply; count = count; vector = vector; cpu = s }
 
-unfoldable pub progress : ℕ → ℕ → ℕ → Cpu → List ℕ → Advance
+unfoldable pub progress : ℕ → ℕ → ℕ → Cpu → Memory → Advance
 progress zero count vector s m = advance (endedAs Done count vector s) m
 progress (suc left) count vector s m =
     let o : Outcome = step s m in

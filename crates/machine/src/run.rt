@@ -22,6 +22,7 @@ ghost use mathlib.Core.Path.{_≡_};
 ghost use mathlib.Core.Bool.{true};
 ghost use Prim.Native.Nat.{_+_, _*_, _/_, _%_, _≤_};
 ghost use lib.ListN.{length};
+ghost use Rattle.manual.specs.Memory.{mapped};
 ghost use Rattle.manual.specs.Registers.{withParts};
 ghost use Rattle.manual.specs.Emac.{emacOf};
 ghost use Rattle.manual.specs.Reply.{outcome};
@@ -64,7 +65,7 @@ fn together(rest: Cpu, g: [u32; 16], pc: u32, sr: u16, macsr: u32, mask: u32, ac
 // plain engine, both in place; what neither does is done on the whole state.
 fn advanced(top: &[u8], given: Cpu, mem: &mut [u8], budget: u32) -> Progress
     requires { ⌜ (length (now mem) ≤ 0x100_0000) × (admittedOf given ≡ true) × Sound (now top) ⌝ }
-    ensures { λ r. ⌜ advance r (now (mem .exit)) ≡ progress budget 0 0 given (now (mem .entry)) ⌝ }
+    ensures { λ r. ⌜ advance r (now (mem .exit)) ≡ progress budget 0 0 given (mapped (now (mem .entry))) ⌝ }
 {
     let mut g = given.r;
     let mut pc = given.pc;
@@ -139,7 +140,7 @@ fn advanced(top: &[u8], given: Cpu, mem: &mut [u8], budget: u32) -> Progress
 }
 
 pub fn run(cpu: Cpu, mem: &mut [u8], budget: u32) -> Ran
-    ensures { λ r. ⌜ runOutcome r (now (mem .exit)) ≡ runOf budget cpu (now (mem .entry)) ⌝ }
+    ensures { λ r. ⌜ runOutcome r (now (mem .exit)) ≡ runOf budget cpu (mapped (now (mem .entry))) ⌝ }
 {
     if 0x100_0000 < mem.len() {
         return Ran {
@@ -169,7 +170,7 @@ pub fn run(cpu: Cpu, mem: &mut [u8], budget: u32) -> Ran
 // One step is a run of one, so that the quick path has one caller and is compiled into the loop. It lends an empty table: to build the
 // table takes a third of the time of a step.
 pub fn step(cpu: Cpu, mem: &mut [u8]) -> Stepped
-    ensures { λ r. ⌜ outcome r (now (mem .exit)) ≡ stepOf cpu (now (mem .entry)) ⌝ }
+    ensures { λ r. ⌜ outcome r (now (mem .exit)) ≡ stepOf cpu (mapped (now (mem .entry))) ⌝ }
 {
     if 0x100_0000 < mem.len() {
         return refusal(cpu, Reply::TooLong);

@@ -6,6 +6,7 @@ use manual::Cpu;
 use manual::Stepped;
 use perform::perform;
 ghost use mathlib.Core.Path.{_≡_};
+ghost use Rattle.manual.specs.Memory.{mapped};
 ghost use Rattle.manual.specs.Emac.{emacOf};
 ghost use Rattle.manual.specs.Reply.{outcome};
 ghost use Rattle.instructions.specs.Perform.{perform as performOf};
@@ -25,7 +26,7 @@ pub(crate) fn plain(
     mem: &mut [u8],
     op: u32,
 ) -> Effect
-    ensures { λ r. ⌜ after r (now (g .exit)) (now (mem .exit)) ≡ agreed r (ofRow row (now (g .entry)) pc sr other (emacOf macsr mask (now (acc .entry))) (now (mem .entry)) op) sr (now (g .entry)) (now (mem .entry)) ⌝ }
+    ensures { λ r. ⌜ after r (now (g .exit)) (now (mem .exit)) ≡ agreed r (ofRow row (now (g .entry)) pc sr other (emacOf macsr mask (now (acc .entry))) (mapped (now (mem .entry))) op) sr (now (g .entry)) (mapped (now (mem .entry))) ⌝ }
 {
     let c = instruction(row, &*g, pc, sr, other, macsr, mask, acc, &*mem, op);
     carried_out(g, mem, sr, c)
@@ -33,7 +34,7 @@ pub(crate) fn plain(
 
 // On a whole state, where it is not done in place.
 pub(crate) fn performed(row: u8, held: Cpu, mem: &mut [u8], op: u32) -> Stepped
-    ensures { λ r. ⌜ outcome r (now (mem .exit)) ≡ performOf held (ofRow row (held .r) (held .pc) (held .sr) (held .other) (held .emac) (now (mem .entry)) op) (now (mem .entry)) ⌝ }
+    ensures { λ r. ⌜ outcome r (now (mem .exit)) ≡ performOf held (ofRow row (held .r) (held .pc) (held .sr) (held .other) (held .emac) (mapped (now (mem .entry))) op) (mapped (now (mem .entry))) ⌝ }
 {
     let g = held.r;
     let acc = held.emac.acc;

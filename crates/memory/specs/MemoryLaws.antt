@@ -14,12 +14,15 @@ use lib.ListN.{length, getD, set, length-set}
 use lib.Seq.{getD-set-same, getD-set-other}
 use Rattle.manual.specs.declared.Size.{Size}
 use Rattle.manual.specs.declared.Size.the-variants.{Long}
+use Rattle.manual.specs.declared.Fault.{Fault}
 use Rattle.manual.specs.declared.Fault.the-variants.{Outside}
 use Rattle.manual.specs.declared.Access.{Access}
 use Rattle.manual.specs.declared.Access.the-variants.{Here, Not}
+use Rattle.manual.specs.declared.Stored.{Stored}
+use Rattle.manual.specs.declared.Stored.the-variants.{Fault as NotTaken}
 use Rattle.manual.specs.Word.{bytes, plus}
 use Rattle.manual.specs.Registers.{general}
-use Rattle.manual.specs.Memory.{Storage, Memory, inside, valueAt, storeAt, access, storedIn, stored, numberAt, accessMany, storedMany, loadedMany}
+use Rattle.manual.specs.Memory.{Storage, Memory, inside, valueAt, storeAt, access, taken, storedIn, storing, stored, numberAt, accessMany, storedMany, loadedMany}
 
 -- ---- one number
 
@@ -144,6 +147,15 @@ length-stored m a z v = by (access m a (bytes z))
     by : (x : Access) → length (storedIn m z v x) ≡ length m
     by (Here at) = length-store m at (bytes z) v
     by (Not x) = refl
+
+-- a store that is refused stores nothing
+pub not-stored : (m : Memory) (a : ℕ) (z : Size) (v : ℕ) (r : Stored) (f : Fault) → r ≡ storing m a z → r ≡ NotTaken f → stored m a z v ≡ m
+unfolding storing stored
+not-stored m a z v r f is h = by (access m a (bytes z)) (sym h ∙ is)
+  where
+    by : (x : Access) → NotTaken f ≡ taken x → storedIn m z v x ≡ m
+    by (Here at) e = let q : _≡_ {A = ℕ} 0 1 = cc in absurd (omega arith)
+    by (Not x) e = refl
 
 -- ---- the registers of a mask
 

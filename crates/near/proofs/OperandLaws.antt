@@ -11,14 +11,14 @@ use Rattle.manual.specs.declared.Source.{Source}
 use Rattle.manual.specs.declared.Write.{Write}
 use Rattle.manual.specs.Word.{cut, plus}
 use Rattle.manual.specs.Registers.{dataOf, addressOf, general, noWrite}
-use Rattle.manual.specs.Memory.{load}
+use Rattle.manual.specs.Memory.{Memory, load}
 use Rattle.manual.specs.Address.{source, operand, value, fetch, locate, immediate, extension, moved}
 use Rattle.word.specs.TestLaws.{by-lt}
 use Rattle.near.specs.Near.{Located, located, inMemory, spotted, readAs, Readable}
 use Rattle.near.specs.declared.Spot.{Spot}
 use Rattle.near.specs.declared.Spot.the-variants.{At, Far}
 
-module _ (z : Size) (g m : List ℕ) (pc op : ℕ) where
+module _ (z : Size) (g : List ℕ) (m : Memory) (pc op : ℕ) where
   pub register : op / 8 % 8 < 2 → readAs (cut z (general g op)) (plus pc 0) noWrite ≡ source g m pc op z
   unfolding source operand value fetch locate extension moved general dataOf addressOf
   register h = by-lt (op / 8 % 8) 1
@@ -43,7 +43,7 @@ module _ (z : Size) (g m : List ℕ) (pc op : ℕ) where
   to-read s a next v w h q = rw q at h v
 
 -- an immediate long is read where it stands
-pub immediate-long : (g m : List ℕ) (pc op : ℕ) → op % 64 ≡ 0x3C → (v : ℕ) → v < 2 ^ 32 → load m pc Long ≡ Value v
+pub immediate-long : (g : List ℕ) (m : Memory) (pc op : ℕ) → op % 64 ≡ 0x3C → (v : ℕ) → v < 2 ^ 32 → load m pc Long ≡ Value v
     → readAs v (plus pc 4) noWrite ≡ source g m pc op Long
 unfolding source operand value fetch locate immediate extension moved cut
 immediate-long g m pc op h v l k =

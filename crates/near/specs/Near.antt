@@ -11,7 +11,7 @@ use Rattle.manual.specs.declared.Source.{Source}
 use Rattle.manual.specs.declared.Write.{Write}
 use Rattle.manual.specs.Word.{plus}
 use Rattle.manual.specs.Registers.{noWrite}
-use Rattle.manual.specs.Memory.{load}
+use Rattle.manual.specs.Memory.{Memory, load}
 use Rattle.manual.specs.Address.{extension, locate, moved, source}
 use Rattle.manual.specs.Change.{put, store}
 use Rattle.manual.specs.declared.Change.{Change}
@@ -26,7 +26,7 @@ pub record Located : Type 0 where
   pub next : ℕ
   pub step : Write
 
-abbrev pub located : List ℕ → List ℕ → ℕ → Operand → Size → Located
+abbrev pub located : List ℕ → Memory → ℕ → Operand → Size → Located
 located g m pc o z = record { place = locate g m pc o z; next = plus pc (extension o z); step = moved g o z }
 
 abbrev pub inMemory : ℕ → ℕ → Write → Located
@@ -40,7 +40,7 @@ abbrev pub readAs : ℕ → ℕ → Write → Source
 readAs v next w = record { got = Value v; next = next; moved = w }
 
 -- the number that is loaded at a spot is what the operand of a word reads
-abbrev pub Readable : List ℕ → List ℕ → ℕ → ℕ → Size → Spot → Type 0
+abbrev pub Readable : List ℕ → Memory → ℕ → ℕ → Size → Spot → Type 0
 Readable g m pc op z (At a next w) = (v : ℕ) → v < 2 ^ 32 → load m a z ≡ Value v → readAs v next w ≡ source g m pc op z
 Readable g m pc op z Far = Unit {0}
 
@@ -55,7 +55,7 @@ pub read : (r : Reading) (s : Source) (v next : ℕ) (w : Write) → r ≡ Read 
 read r s v next w q h = sym (rw q at h)
 
 -- what is put in memory is stored: the operand's move comes second after another operand's, or first
-module _ (z : Size) (g m : List ℕ) (pc : ℕ) (o : Operand) (codes v a next : ℕ) (w : Write) (h : located g m pc o z ≡ inMemory a next w) where
+module _ (z : Size) (g : List ℕ) (m : Memory) (pc : ℕ) (o : Operand) (codes v a next : ℕ) (w : Write) (h : located g m pc o z ≡ inMemory a next w) where
   pub put-second : (one : Write) → put g (plus pc (extension o z)) codes one (moved g o z) (locate g m pc o z) z v ≡ store next codes one w a z v
   unfolding put
   put-second one = ap (λ (l : Located). put g (l .next) codes one (l .step) (l .place) z v) h

@@ -16,6 +16,7 @@ use word::word::sign_extended;
 ghost use mathlib.Core.Path.{_≡_};
 ghost use mathlib.Core.List.{List};
 ghost use Prim.Native.Nat.{ℕ, _+_, _*_, _/_, _%_};
+ghost use Rattle.manual.specs.Memory.{mapped};
 ghost use Rattle.manual.specs.declared.Size.the-variants.{Long};
 ghost use Rattle.manual.specs.Registers.{addressOf};
 ghost use Rattle.manual.specs.Address.{operand as operandOf, source as sourceOf};
@@ -23,7 +24,7 @@ ghost use Rattle.near.specs.Near.{located, spotted, Readable, asRead};
 
 // Of a mode and of register r, which holds a: as it is, or as another operand's move left it.
 pub fn spot(z: Size, mem: &[u8], pc: u32, mode: u32, r: u32, a: u32) -> Spot
-    ensures { λ s. ⌜ ((g : List ℕ) → addressOf g r ≡ a → spotted s (located g (now (mem .entry)) pc (operandOf mode r) z) ≡ located g (now (mem .entry)) pc (operandOf mode r) z) ⌝ }
+    ensures { λ s. ⌜ ((g : List ℕ) → addressOf g r ≡ a → spotted s (located g (mapped (now (mem .entry))) pc (operandOf mode r) z) ≡ located g (mapped (now (mem .entry))) pc (operandOf mode r) z) ⌝ }
 {
     match mode {
         2 => Spot::At(a, plus(pc, 0), no_write()),
@@ -45,7 +46,7 @@ pub fn spot(z: Size, mem: &[u8], pc: u32, mode: u32, r: u32, a: u32) -> Spot
 
 // Where the operand of a word's bits 5 to 0 is to be loaded from: an immediate long stands where its extension words do.
 fn readable(z: Size, g: &[u32; 16], mem: &[u8], pc: u32, op: u32) -> Spot
-    ensures { λ s. ⌜ Readable (now (g .entry)) (now (mem .entry)) pc op z s ⌝ }
+    ensures { λ s. ⌜ Readable (now (g .entry)) (mapped (now (mem .entry))) pc op z s ⌝ }
 {
     if op % 64 == 0x3C {
         if let Size::Long = z {
@@ -58,7 +59,7 @@ fn readable(z: Size, g: &[u32; 16], mem: &[u8], pc: u32, op: u32) -> Spot
 
 // The operand that a word's bits 5 to 0 name.
 pub fn read(z: Size, g: &[u32; 16], mem: &[u8], pc: u32, op: u32) -> Reading
-    ensures { λ r. ⌜ asRead r (sourceOf (now (g .entry)) (now (mem .entry)) pc op z) ≡ sourceOf (now (g .entry)) (now (mem .entry)) pc op z ⌝ }
+    ensures { λ r. ⌜ asRead r (sourceOf (now (g .entry)) (mapped (now (mem .entry))) pc op z) ≡ sourceOf (now (g .entry)) (mapped (now (mem .entry))) pc op z ⌝ }
 {
     let mode = op / 8 % 8;
     if mode < 2 {
@@ -75,7 +76,7 @@ pub fn read(z: Size, g: &[u32; 16], mem: &[u8], pc: u32, op: u32) -> Reading
 
 // The same of a long. Apart, so that a compiler puts it into each body: `read` has one other caller, and is put there.
 pub fn read_long(g: &[u32; 16], mem: &[u8], pc: u32, op: u32) -> Reading
-    ensures { λ r. ⌜ asRead r (sourceOf (now (g .entry)) (now (mem .entry)) pc op Long) ≡ sourceOf (now (g .entry)) (now (mem .entry)) pc op Long ⌝ }
+    ensures { λ r. ⌜ asRead r (sourceOf (now (g .entry)) (mapped (now (mem .entry))) pc op Long) ≡ sourceOf (now (g .entry)) (mapped (now (mem .entry))) pc op Long ⌝ }
 {
     read(Size::Long, g, mem, pc, op)
 }

@@ -1,43 +1,33 @@
 -- Every step keeps a state admitted: a change names no status register, and each action sets one, or the EMAC, by a definition that
 -- keeps it. Assumes nothing.
 use mathlib.Core.Path.{_≡_, refl}
-use mathlib.Core.Bool.{Bool, true, false, cond}
-use mathlib.Core.List.{List}
+use mathlib.Core.Bool.{true, false}
 use Prim.Native.Nat.{ℕ}
 use Rattle.manual.specs.declared.Cpu.{Cpu}
 use Rattle.manual.specs.declared.Emac.{Emac}
 use Rattle.manual.specs.declared.Size.the-variants.{Long}
 use Rattle.manual.specs.declared.Level.the-variants.{Kept}
-use Rattle.manual.specs.declared.Reply.the-variants.{NotInside, TooLong, NotAdmitted, Stopped}
 use Rattle.manual.specs.declared.Action.{Action}
 use Rattle.manual.specs.declared.Action.the-variants.{Nothing, Store, StoreMany, LoadMany, Enter, Return, Status, Stop, PushStatus, Halt, Other, Accumulate, SetAcc, SetExt, SetMacsr, SetMask, CopyAcc, ClearAcc, Refuse}
 use Rattle.manual.specs.declared.Change.{Change}
-use Rattle.manual.specs.Word.{bytes, minus}
+use Rattle.manual.specs.Word.{minus}
 use Rattle.manual.specs.Registers.{addressOf, withAddress, withRegisters, withEmac, applied}
-use Rattle.manual.specs.Memory.{inside, stored, manyInside, storedMany, loadedMany}
-use Rattle.manual.specs.Reply.{Outcome, completed, unchanged}
+use Rattle.manual.specs.Memory.{Memory, storing, accessMany, loadedMany}
 use Rattle.manual.specs.Admitted.{admitted, emacAdmitted}
 use Rattle.manual.specs.Exceptions.{setSr}
 use Rattle.manual.specs.Emac.{accumulate, moveTo, setExt, setMacsr, setMask, copyAcc, clearAcc}
 use Rattle.instructions.specs.Perform.{statusPushed, act, perform}
 use Rattle.statusregister.specs.AdmittedLaws.{admitted-emac, registers-admitted, address-admitted, other-admitted, stopped-admitted, emac-admitted, applied-admitted, set-sr-admitted}
-use Rattle.exceptions.specs.EntryAdmitted.{refusal-admitted, either-outcome, entered-admitted, left-admitted}
+use Rattle.exceptions.specs.EntryAdmitted.{refusal-admitted, taking-admitted, entered-admitted, left-admitted}
 use Rattle.emac.specs.EmacKept.{accumulate-kept, set-macsr-kept, move-to-kept, copy-acc-kept, clear-acc-kept, set-ext-kept, set-mask-kept}
 
-module _ (given s : Cpu) (m : List ℕ) (k : admitted given ≡ true) (h : admitted s ≡ true) where
-  abbrev refused : Outcome
-  refused = unchanged given NotInside m
-
-  kept : admitted (refused .stepped .cpu) ≡ true
-  kept = refusal-admitted given NotInside k
-
+module _ (given s : Cpu) (m : Memory) (k : admitted given ≡ true) (h : admitted s ≡ true) where
   pushed-admitted : (v : ℕ) → admitted (statusPushed given s v m .stepped .cpu) ≡ true
   unfolding statusPushed
   pushed-admitted v =
       let sp : ℕ = minus (addressOf (s .r) 7) 4 in
-      either-outcome (inside m sp 4) (completed (setSr v (withAddress 7 sp s)) 0 (stored m sp Long (s .sr))) refused
+      taking-admitted given m k (storing m sp Long) _
       (set-sr-admitted v (withAddress 7 sp s) (admitted-emac (withAddress 7 sp s) (address-admitted 7 sp s h)))
-      kept
 
   unit-admitted : (e : Emac) → emacAdmitted e ≡ true → admitted (withEmac e s) ≡ true
   unit-admitted e q = emac-admitted e s q h
@@ -47,13 +37,11 @@ module _ (given s : Cpu) (m : List ℕ) (k : admitted given ≡ true) (h : admit
 
   act-admitted : (a : Action) → admitted (act given s a m .stepped .cpu) ≡ true
   act-admitted Nothing = h
-  act-admitted (Store a z v) = either-outcome (inside m a (bytes z)) (completed s 0 (stored m a z v)) refused h kept
-  act-admitted (StoreMany mask a) = either-outcome (manyInside 16 m mask a) (completed s 0 (storedMany 16 (s .r) 0 mask a m)) refused h kept
-  act-admitted (LoadMany mask a) =
-      let g : List ℕ = loadedMany 16 m 0 mask a (s .r) in
-      either-outcome (manyInside 16 m mask a) (completed (withRegisters g s) 0 m) refused (registers-admitted g s h) kept
-  act-admitted (Enter vector pc) = entered-admitted given s Kept vector pc m k h
-  act-admitted Return = left-admitted given s m k h
+  act-admitted (Store a z v) = taking-admitted given m k (storing m a z) _ h
+  act-admitted (StoreMany mask a) = taking-admitted given m k (accessMany 16 m mask a) _ h
+  act-admitted (LoadMany mask a) = taking-admitted given m k (accessMany 16 m mask a) _ (registers-admitted (loadedMany 16 m 0 mask a (s .r)) s h)
+  act-admitted (Enter vector pc) = entered-admitted given m k s Kept vector pc h
+  act-admitted Return = left-admitted given m k s h
   act-admitted (Status v) = set-sr-admitted v s unit
   act-admitted (Stop v) = stopped-admitted true (setSr v s) (set-sr-admitted v s unit)
   act-admitted (PushStatus v) = pushed-admitted v
@@ -68,6 +56,6 @@ module _ (given s : Cpu) (m : List ℕ) (k : admitted given ≡ true) (h : admit
   act-admitted (ClearAcc i) = unit-admitted (clearAcc (s .emac) i) (clear-acc-kept (s .emac) unit i)
   act-admitted (Refuse n) = refusal-admitted given n k
 
-pub perform-admitted : (given : Cpu) (c : Change) (m : List ℕ) → admitted given ≡ true → admitted (perform given c m .stepped .cpu) ≡ true
+pub perform-admitted : (given : Cpu) (c : Change) (m : Memory) → admitted given ≡ true → admitted (perform given c m .stepped .cpu) ≡ true
 unfolding perform
 perform-admitted given c m k = act-admitted given (applied given c) m k (applied-admitted given c k) (c .action)

@@ -1,2 +1,2 @@
 pub mod KeptLaws
-pub mod Quiet
+pub mod Completed

@@ -7,6 +7,7 @@ use mathlib.Core.List.{List}
 use Rattle.manual.specs.declared.Emac.{Emac}
 use Rattle.manual.specs.declared.Change.{Change}
 use Rattle.manual.specs.Emac.{emacOf}
+use Rattle.manual.specs.Memory.{Storage, Memory}
 use Rattle.inplace.specs.declared.Effect.{Effect}
 use Rattle.inplace.specs.declared.Effect.the-variants.{Done as InPlace, Left as NotInPlace}
 use Rattle.inplace.specs.Effects.{After, after, agreed, inPlace}
@@ -23,14 +24,14 @@ pub record Whole : Type 0 where
   pub status : ℕ
   pub registers : List ℕ
   pub unit : Emac
-  pub memory : List ℕ
+  pub storage : Storage
 
-abbrev pub whole : Attempt → ℕ → ℕ → ℕ → List ℕ → List ℕ → List ℕ → Whole
+abbrev pub whole : Attempt → ℕ → ℕ → ℕ → List ℕ → List ℕ → Memory → Whole
 whole (Done pc sr′) sr macsr mask g acc m =
-    record { answer = Done pc sr′; status = sr′; registers = g; unit = emacOf macsr mask acc; memory = m }
+    record { answer = Done pc sr′; status = sr′; registers = g; unit = emacOf macsr mask acc; storage = m }
 whole (Sum pc macsr′) sr macsr mask g acc m =
-    record { answer = Sum pc macsr′; status = sr; registers = g; unit = emacOf macsr′ mask acc; memory = m }
-whole Left sr macsr mask g acc m = record { answer = Left; status = sr; registers = g; unit = emacOf macsr mask acc; memory = m }
+    record { answer = Sum pc macsr′; status = sr; registers = g; unit = emacOf macsr′ mask acc; storage = m }
+whole Left sr macsr mask g acc m = record { answer = Left; status = sr; registers = g; unit = emacOf macsr mask acc; storage = m }
 
 -- what is done in place leaves the unit as it is
 abbrev answerOf : Effect → Attempt
@@ -43,20 +44,20 @@ statusOf sr NotInPlace = sr
 
 abbrev fromPlace : ℕ → Emac → After → Whole
 fromPlace sr e a =
-    record { answer = answerOf (a .effect); status = statusOf sr (a .effect); registers = a .registers; unit = e; memory = a .memory }
+    record { answer = answerOf (a .effect); status = statusOf sr (a .effect); registers = a .registers; unit = e; storage = a .storage }
 
 -- what is summed leaves memory as it is
-abbrev fromUnit : List ℕ → AfterMac → Whole
+abbrev fromUnit : Memory → AfterMac → Whole
 fromUnit m a =
-    record { answer = cond (a .done) (Sum (a .next) (a .unit .macsr)) Left; status = a .status; registers = a .registers; unit = a .unit; memory = m }
+    record { answer = cond (a .done) (Sum (a .next) (a .unit .macsr)) Left; status = a .status; registers = a .registers; unit = a .unit; storage = m }
 
 -- an answer says that the change was done, in place or in the unit, or that nothing was
-abbrev pub agreedWhole : Attempt → Change → ℕ → ℕ → ℕ → List ℕ → List ℕ → List ℕ → Whole
+abbrev pub agreedWhole : Attempt → Change → ℕ → ℕ → ℕ → List ℕ → List ℕ → Memory → Whole
 agreedWhole (Done pc sr′) c sr macsr mask g acc m = fromPlace sr (emacOf macsr mask acc) (inPlace c sr g m)
 agreedWhole (Sum pc macsr′) c sr macsr mask g acc m = fromUnit m (inUnit c sr (emacOf macsr mask acc) g)
 agreedWhole Left c sr macsr mask g acc m = whole Left sr macsr mask g acc m
 
-module _ (c : Change) (sr macsr mask : ℕ) (g acc m g′ acc′ m′ : List ℕ) where
+module _ (c : Change) (sr macsr mask : ℕ) (g acc : List ℕ) (m : Memory) (g′ acc′ : List ℕ) (m′ : Storage) where
   -- the same by the answer
   abbrev pub Attempted : Attempt → Type 0
   Attempted (Done pc sr′) = (after (InPlace pc sr′) g′ m′ ≡ inPlace c sr g m) × (acc′ ≡ acc)
@@ -88,14 +89,14 @@ module _ (c : Change) (sr macsr mask : ℕ) (g acc m g′ acc′ m′ : List ℕ
       let h′ : undone sr g′ (emacOf macsr mask acc′) ≡ undone sr g e = rw q at h in
       together Left (ap (λ (a : AfterMac). a .registers) h′, ap (λ (a : AfterMac). a .unit .acc) h′, k)
 
-  in-place : (pc sr′ : ℕ) (f : Effect) (g1 m1 : List ℕ) → whole (Done pc sr′) sr macsr mask g′ acc′ m′ ≡ fromPlace sr e (after f g1 m1)
+  in-place : (pc sr′ : ℕ) (f : Effect) (g1 : List ℕ) (m1 : Storage) → whole (Done pc sr′) sr macsr mask g′ acc′ m′ ≡ fromPlace sr e (after f g1 m1)
       → after (InPlace pc sr′) g′ m′ ≡ after f g1 m1
   in-place pc sr′ (InPlace p s) g1 m1 h =
       let q : Done pc sr′ ≡ Done p s = ap (λ (w : Whole). w .answer) h in
       let a : pc ≡ p = cc in
       let b : sr′ ≡ s = cc in
       let r : g′ ≡ g1 = ap (λ (w : Whole). w .registers) h in
-      let n : m′ ≡ m1 = ap (λ (w : Whole). w .memory) h in
+      let n : m′ ≡ m1 = ap (λ (w : Whole). w .storage) h in
       rw (a, b, r, n)
   in-place pc sr′ NotInPlace g1 m1 h =
       let q : Done pc sr′ ≡ Left = ap (λ (w : Whole). w .answer) h in
@@ -118,9 +119,9 @@ module _ (c : Change) (sr macsr mask : ℕ) (g acc m g′ acc′ m′ : List ℕ
   pub apart : (r : Attempt) → Says r → Attempted r
   apart (Done pc sr′) h =
       let a : After = inPlace c sr g m in
-      (in-place pc sr′ (a .effect) (a .registers) (a .memory) h, ap (λ (w : Whole). w .unit .acc) h)
+      (in-place pc sr′ (a .effect) (a .registers) (a .storage) h, ap (λ (w : Whole). w .unit .acc) h)
   apart (Sum pc macsr′) h =
       let a : AfterMac = inUnit c sr e g in
-      (in-unit pc macsr′ (a .done) (a .next) (a .status) (a .registers) (a .unit) h, ap (λ (w : Whole). w .memory) h)
+      (in-unit pc macsr′ (a .done) (a .next) (a .status) (a .registers) (a .unit) h, ap (λ (w : Whole). w .storage) h)
   apart Left h =
-      (ap (λ (w : Whole). w .registers) h, ap (λ (w : Whole). w .unit .acc) h, ap (λ (w : Whole). w .memory) h)
+      (ap (λ (w : Whole). w .registers) h, ap (λ (w : Whole). w .unit .acc) h, ap (λ (w : Whole). w .storage) h)

@@ -44,6 +44,7 @@ use quicksum::sub_to_address;
 use quicksum::sub_to_data;
 ghost use mathlib.Core.Path.{_≡_};
 ghost use Prim.Native.Nat.{ℕ};
+ghost use Rattle.manual.specs.Memory.{mapped};
 ghost use Rattle.manual.specs.declared.Emac.{Emac};
 ghost use Rattle.manual.specs.Emac.{emacOf};
 ghost use Rattle.instructions.specs.Step.{ofRow};
@@ -59,7 +60,7 @@ pub enum Attempt {
 
 // The instructions that leave the EMAC unit as it is. The bodies in quick.. are for the quick path alone; the others are the plain engine's.
 pub fn in_place(row: u8, g: &mut [u32; 16], pc: u32, sr: u16, mem: &mut [u8], op: u32) -> Effect
-    ensures { λ r. ⌜ ((other : ℕ) (e : Emac) → after r (now (g .exit)) (now (mem .exit)) ≡ agreed r (ofRow row (now (g .entry)) pc sr other e (now (mem .entry)) op) sr (now (g .entry)) (now (mem .entry))) ⌝ }
+    ensures { λ r. ⌜ ((other : ℕ) (e : Emac) → after r (now (g .exit)) (now (mem .exit)) ≡ agreed r (ofRow row (now (g .entry)) pc sr other e (mapped (now (mem .entry))) op) sr (now (g .entry)) (mapped (now (mem .entry)))) ⌝ }
 {
     match row {
         rows::ANDI => settled(g, sr, logic_immediate(Logic::And, &*g, pc, sr, &*mem, op)),
@@ -129,7 +130,7 @@ pub fn quick_step(
     mem: &mut [u8],
     op: u32,
 ) -> Attempt
-    ensures { λ r. ⌜ ((other : ℕ) → whole r sr macsr mask (now (g .exit)) (now (acc .exit)) (now (mem .exit)) ≡ agreedWhole r (ofRow row (now (g .entry)) pc sr other (emacOf macsr mask (now (acc .entry))) (now (mem .entry)) op) sr macsr mask (now (g .entry)) (now (acc .entry)) (now (mem .entry))) ⌝ }
+    ensures { λ r. ⌜ ((other : ℕ) → whole r sr macsr mask (now (g .exit)) (now (acc .exit)) (now (mem .exit)) ≡ agreedWhole r (ofRow row (now (g .entry)) pc sr other (emacOf macsr mask (now (acc .entry))) (mapped (now (mem .entry))) op) sr macsr mask (now (g .entry)) (now (acc .entry)) (mapped (now (mem .entry)))) ⌝ }
 {
     if row == rows::MAC {
         match quick_mac(g, acc, pc, sr, macsr, mask, &*mem, op) {

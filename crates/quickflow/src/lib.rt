@@ -6,6 +6,7 @@ use inplace::settled;
 use inplace::stored;
 use manual::Got;
 use manual::Size;
+use manual::Stored;
 use memory::load;
 use memory::many::load_many;
 use memory::many::store_many;
@@ -17,15 +18,15 @@ use word::word::plus;
 use word::word::sign_extended;
 ghost use mathlib.Core.Path.{_≡_};
 ghost use mathlib.Core.Bool.{true, false};
-ghost use mathlib.Core.List.{List};
 ghost use Prim.Native.Nat.{ℕ, _+_, _*_, _/_, _%_};
+ghost use Rattle.manual.specs.Memory.{Memory, mapped, storageOf};
 ghost use Rattle.instructions.specs.Line4.{jsr as jsrOf, pea as peaOf, moveMany};
 ghost use Rattle.instructions.specs.Line6.{bcc as bccOf};
 ghost use Rattle.inplace.specs.Effects.{after, agreed};
 
 // Line6.bcc, of a byte
 pub fn bcc(g: &mut [u32; 16], pc: u32, sr: u16, op: u32) -> Effect
-    ensures { λ r. ⌜ ((m : List ℕ) → after r (now (g .exit)) m ≡ agreed r (bccOf pc sr m op) sr (now (g .entry)) m) ⌝ }
+    ensures { λ r. ⌜ ((m : Memory) → after r (now (g .exit)) (storageOf m) ≡ agreed r (bccOf pc sr m op) sr (now (g .entry)) m) ⌝ }
 {
     let low = op % 256;
     if low == 0 {
@@ -43,7 +44,7 @@ pub fn bcc(g: &mut [u32; 16], pc: u32, sr: u16, op: u32) -> Effect
 
 // Line4.jsr, of (An) and of an absolute long
 pub fn jsr(g: &mut [u32; 16], pc: u32, sr: u16, mem: &mut [u8], op: u32) -> Effect
-    ensures { λ r. ⌜ after r (now (g .exit)) (now (mem .exit)) ≡ agreed r (jsrOf (now (g .entry)) pc sr (now (mem .entry)) op) sr (now (g .entry)) (now (mem .entry)) ⌝ }
+    ensures { λ r. ⌜ after r (now (g .exit)) (now (mem .exit)) ≡ agreed r (jsrOf (now (g .entry)) pc sr (mapped (now (mem .entry))) op) sr (now (g .entry)) (mapped (now (mem .entry))) ⌝ }
 {
     let at = plus(pc, 2);
     if op / 8 % 8 == 2 {
@@ -66,7 +67,7 @@ pub fn jsr(g: &mut [u32; 16], pc: u32, sr: u16, mem: &mut [u8], op: u32) -> Effe
 
 // Line4.pea, of d16(An)
 pub fn pea(g: &mut [u32; 16], pc: u32, sr: u16, mem: &mut [u8], op: u32) -> Effect
-    ensures { λ r. ⌜ after r (now (g .exit)) (now (mem .exit)) ≡ agreed r (peaOf (now (g .entry)) pc sr (now (mem .entry)) op) sr (now (g .entry)) (now (mem .entry)) ⌝ }
+    ensures { λ r. ⌜ after r (now (g .exit)) (now (mem .exit)) ≡ agreed r (peaOf (now (g .entry)) pc sr (mapped (now (mem .entry))) op) sr (now (g .entry)) (mapped (now (mem .entry))) ⌝ }
 {
     if op / 8 % 8 != 5 {
         return Effect::Left;
@@ -83,7 +84,7 @@ pub fn pea(g: &mut [u32; 16], pc: u32, sr: u16, mem: &mut [u8], op: u32) -> Effe
 
 // Line4.moveMany true
 pub fn store_registers(g: &[u32; 16], pc: u32, sr: u16, mem: &mut [u8], op: u32) -> Effect
-    ensures { λ r. ⌜ after r (now (g .entry)) (now (mem .exit)) ≡ agreed r (moveMany true (now (g .entry)) pc sr (now (mem .entry)) op) sr (now (g .entry)) (now (mem .entry)) ⌝ }
+    ensures { λ r. ⌜ after r (now (g .entry)) (now (mem .exit)) ≡ agreed r (moveMany true (now (g .entry)) pc sr (mapped (now (mem .entry))) op) sr (now (g .entry)) (mapped (now (mem .entry))) ⌝ }
 {
     let at = plus(pc, 2);
     let mask = match load(&*mem, at, Size::Word) {
@@ -93,10 +94,10 @@ pub fn store_registers(g: &[u32; 16], pc: u32, sr: u16, mem: &mut [u8], op: u32)
     let a = address(g, op);
     let same = coded(sr, kept_codes(sr));
     if op / 8 % 8 == 2 {
-        if store_many(mem, g, mask, a) {
-            return Effect::Done(plus(at, 2), same);
-        }
-        return Effect::Left;
+        return match store_many(mem, g, mask, a) {
+            Stored::Done => Effect::Done(plus(at, 2), same),
+            Stored::Fault(_) => Effect::Left,
+        };
     }
     if op / 8 % 8 != 5 {
         return Effect::Left;
@@ -106,15 +107,15 @@ pub fn store_registers(g: &[u32; 16], pc: u32, sr: u16, mem: &mut [u8], op: u32)
         Got::Fault(_) => return Effect::Left,
     };
     let b = plus(a, sign_extended(Size::Word, d));
-    if store_many(mem, g, mask, b) {
-        return Effect::Done(plus(at, 4), same);
+    match store_many(mem, g, mask, b) {
+        Stored::Done => Effect::Done(plus(at, 4), same),
+        Stored::Fault(_) => Effect::Left,
     }
-    Effect::Left
 }
 
 // Line4.moveMany false
 pub fn load_registers(g: &mut [u32; 16], pc: u32, sr: u16, mem: &[u8], op: u32) -> Effect
-    ensures { λ r. ⌜ after r (now (g .exit)) (now (mem .entry)) ≡ agreed r (moveMany false (now (g .entry)) pc sr (now (mem .entry)) op) sr (now (g .entry)) (now (mem .entry)) ⌝ }
+    ensures { λ r. ⌜ after r (now (g .exit)) (now (mem .entry)) ≡ agreed r (moveMany false (now (g .entry)) pc sr (mapped (now (mem .entry))) op) sr (now (g .entry)) (mapped (now (mem .entry))) ⌝ }
 {
     let at = plus(pc, 2);
     let mask = match load(mem, at, Size::Word) {
@@ -124,10 +125,10 @@ pub fn load_registers(g: &mut [u32; 16], pc: u32, sr: u16, mem: &[u8], op: u32) 
     let a = address(&*g, op);
     let same = coded(sr, kept_codes(sr));
     if op / 8 % 8 == 2 {
-        if load_many(mem, g, mask, a) {
-            return Effect::Done(plus(at, 2), same);
-        }
-        return Effect::Left;
+        return match load_many(mem, g, mask, a) {
+            Stored::Done => Effect::Done(plus(at, 2), same),
+            Stored::Fault(_) => Effect::Left,
+        };
     }
     if op / 8 % 8 != 5 {
         return Effect::Left;
@@ -137,8 +138,8 @@ pub fn load_registers(g: &mut [u32; 16], pc: u32, sr: u16, mem: &[u8], op: u32) 
         Got::Fault(_) => return Effect::Left,
     };
     let b = plus(a, sign_extended(Size::Word, d));
-    if load_many(mem, g, mask, b) {
-        return Effect::Done(plus(at, 4), same);
+    match load_many(mem, g, mask, b) {
+        Stored::Done => Effect::Done(plus(at, 4), same),
+        Stored::Fault(_) => Effect::Left,
     }
-    Effect::Left
 }

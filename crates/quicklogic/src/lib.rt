@@ -19,8 +19,8 @@ use word::word::cut;
 use word::word::merged;
 use word::word::plus;
 ghost use mathlib.Core.Path.{_≡_};
-ghost use mathlib.Core.List.{List};
 ghost use Prim.Native.Nat.{ℕ, _+_, _*_, _/_, _%_};
+ghost use Rattle.manual.specs.Memory.{Memory, mapped, storageOf};
 ghost use Rattle.manual.specs.declared.Logic.the-variants.{And, Eor};
 ghost use Rattle.instructions.specs.Line0.{bitByRegister, bitByImmediate};
 ghost use Rattle.instructions.specs.Line4.{multiply};
@@ -30,7 +30,7 @@ ghost use Rattle.inplace.specs.Effects.{after, agreed};
 
 // LineC.logicToData And, of a long
 pub fn and_to_data(g: &mut [u32; 16], pc: u32, sr: u16, mem: &[u8], op: u32) -> Effect
-    ensures { λ r. ⌜ after r (now (g .exit)) (now (mem .entry)) ≡ agreed r (logicToData And (now (g .entry)) pc sr (now (mem .entry)) op) sr (now (g .entry)) (now (mem .entry)) ⌝ }
+    ensures { λ r. ⌜ after r (now (g .exit)) (now (mem .entry)) ≡ agreed r (logicToData And (now (g .entry)) pc sr (mapped (now (mem .entry))) op) sr (now (g .entry)) (mapped (now (mem .entry))) ⌝ }
 {
     if op / 64 % 4 != 2 {
         return Effect::Left;
@@ -47,7 +47,7 @@ pub fn and_to_data(g: &mut [u32; 16], pc: u32, sr: u16, mem: &[u8], op: u32) -> 
 
 // LineB.logicToPlace Eor, of a long in Dn
 pub fn eor_to_data(g: &mut [u32; 16], pc: u32, sr: u16, op: u32) -> Effect
-    ensures { λ r. ⌜ ((m : List ℕ) → after r (now (g .exit)) m ≡ agreed r (logicToPlace Eor (now (g .entry)) pc sr m op) sr (now (g .entry)) m) ⌝ }
+    ensures { λ r. ⌜ ((m : Memory) → after r (now (g .exit)) (storageOf m) ≡ agreed r (logicToPlace Eor (now (g .entry)) pc sr m op) sr (now (g .entry)) m) ⌝ }
 {
     if op / 8 % 8 != 0 {
         return Effect::Left;
@@ -69,7 +69,7 @@ pub fn eor_to_data(g: &mut [u32; 16], pc: u32, sr: u16, op: u32) -> Effect
 
 // Line4.multiply
 pub fn multiply_longs(g: &mut [u32; 16], pc: u32, sr: u16, mem: &[u8], op: u32) -> Effect
-    ensures { λ r. ⌜ after r (now (g .exit)) (now (mem .entry)) ≡ agreed r (multiply (now (g .entry)) pc sr (now (mem .entry)) op) sr (now (g .entry)) (now (mem .entry)) ⌝ }
+    ensures { λ r. ⌜ after r (now (g .exit)) (now (mem .entry)) ≡ agreed r (multiply (now (g .entry)) pc sr (mapped (now (mem .entry))) op) sr (now (g .entry)) (mapped (now (mem .entry))) ⌝ }
 {
     let at = plus(pc, 2);
     let w = match load(mem, at, Size::Word) {
@@ -86,7 +86,7 @@ pub fn multiply_longs(g: &mut [u32; 16], pc: u32, sr: u16, mem: &[u8], op: u32) 
 
 // Line0.bitByRegister, of Dn
 pub fn bit_by_register(g: &mut [u32; 16], pc: u32, sr: u16, op: u32) -> Effect
-    ensures { λ r. ⌜ ((m : List ℕ) → after r (now (g .exit)) m ≡ agreed r (bitByRegister (now (g .entry)) pc sr m op) sr (now (g .entry)) m) ⌝ }
+    ensures { λ r. ⌜ ((m : Memory) → after r (now (g .exit)) (storageOf m) ≡ agreed r (bitByRegister (now (g .entry)) pc sr m op) sr (now (g .entry)) m) ⌝ }
 {
     if op / 8 % 8 != 0 {
         return Effect::Left;
@@ -97,7 +97,7 @@ pub fn bit_by_register(g: &mut [u32; 16], pc: u32, sr: u16, op: u32) -> Effect
 
 // Line0.bitByImmediate, of Dn
 pub fn bit_by_immediate(g: &mut [u32; 16], pc: u32, sr: u16, mem: &[u8], op: u32) -> Effect
-    ensures { λ r. ⌜ after r (now (g .exit)) (now (mem .entry)) ≡ agreed r (bitByImmediate (now (g .entry)) pc sr (now (mem .entry)) op) sr (now (g .entry)) (now (mem .entry)) ⌝ }
+    ensures { λ r. ⌜ after r (now (g .exit)) (now (mem .entry)) ≡ agreed r (bitByImmediate (now (g .entry)) pc sr (mapped (now (mem .entry))) op) sr (now (g .entry)) (mapped (now (mem .entry))) ⌝ }
 {
     if op / 8 % 8 != 0 {
         return Effect::Left;

@@ -12,11 +12,12 @@ use Rattle.manual.specs.declared.Change.{Change}
 use Rattle.manual.specs.Registers.{written, coded, applied, withParts, withEmac}
 use Rattle.manual.specs.Emac.{emacOf, accumulate}
 use Rattle.manual.specs.Reply.{Outcome, completed}
+use Rattle.manual.specs.Memory.{Memory}
 use Rattle.instructions.specs.Perform.{act, perform}
 use Rattle.quickmac.specs.declared.Summed.the-variants.{Left}
 use Rattle.quickmac.specs.Units.{AfterMac, summed, undone, afterMac, actedOn, inUnit}
 
-module _ (g : List ℕ) (pc sr : ℕ) (e : Emac) (rest : Cpu) (m : List ℕ) (c : Change) (pc′ : ℕ) (e′ : Emac) (g′ : List ℕ) where
+module _ (g : List ℕ) (pc sr : ℕ) (e : Emac) (rest : Cpu) (m : Memory) (c : Change) (pc′ : ℕ) (e′ : Emac) (g′ : List ℕ) where
   abbrev state : Cpu
   state = withParts g pc sr e rest
 

@@ -10,7 +10,7 @@ use Rattle.manual.specs.declared.Action.the-variants.{Nothing, Store, StoreMany
 use Rattle.manual.specs.declared.Change.{Change}
 use Rattle.manual.specs.Registers.{general, writeGeneral, written, coded}
 use Rattle.manual.specs.Flags.{keptCodes}
-use Rattle.manual.specs.Memory.{load}
+use Rattle.manual.specs.Memory.{Memory, load}
 use Rattle.manual.specs.Change.{reading}
 use Rattle.manual.specs.Emac.{emacOf, accumulate}
 use Rattle.instructions.specs.LineA.{highRegister, accumulating}
@@ -98,6 +98,6 @@ loading g sr op w v next step =
     }
 
 -- the change that loads from a spot. `Far` says nothing
-abbrev pub fromSpot : Spot → List ℕ → ℕ → List ℕ → ℕ → ℕ → Change → Change
+abbrev pub fromSpot : Spot → List ℕ → ℕ → Memory → ℕ → ℕ → Change → Change
 fromSpot (At a next step) g sr m op w c = reading (load m a Long) λ v. loading g sr op w v next step
 fromSpot Far g sr m op w c = c

@@ -16,6 +16,7 @@ use word::word::plus;
 use word::word::sign_extended;
 ghost use mathlib.Core.Path.{_≡_};
 ghost use Prim.Native.Nat.{ℕ, _+_, _*_, _/_, _%_};
+ghost use Rattle.manual.specs.Memory.{mapped};
 ghost use Rattle.manual.specs.declared.Emac.{Emac};
 ghost use Rattle.manual.specs.Emac.{emacOf};
 ghost use Rattle.instructions.specs.LineA.{macRegisters, macWithLoad, mac};
@@ -48,7 +49,7 @@ fn mac_registers(g: &[u32; 16], pc: u32, op: u32, w: u32) -> Product
 // match answers both for a masked address as for another, so that the mask costs its test alone.
 fn load_spot(g: &[u32; 16], pc: u32, mask: u32, mem: &[u8], op: u32, w: u32) -> Spot
     requires { ⌜ (w / 0x800 % 2 ≡ 0 → ⊥) ⌝ }
-    ensures { λ s. ⌜ ((sr : ℕ) → fromSpot s (now (g .entry)) sr (now (mem .entry)) op w (macWithLoad (now (g .entry)) pc sr mask (now (mem .entry)) op w) ≡ macWithLoad (now (g .entry)) pc sr mask (now (mem .entry)) op w) ⌝ }
+    ensures { λ s. ⌜ ((sr : ℕ) → fromSpot s (now (g .entry)) sr (mapped (now (mem .entry))) op w (macWithLoad (now (g .entry)) pc sr mask (mapped (now (mem .entry))) op w) ≡ macWithLoad (now (g .entry)) pc sr mask (mapped (now (mem .entry))) op w) ⌝ }
 {
     let r = address(g, op);
     match op / 8 % 8 {
@@ -75,7 +76,7 @@ fn load_spot(g: &[u32; 16], pc: u32, mask: u32, mem: &[u8], op: u32, w: u32) -> 
 // With a load. Left: a spot that is far, and a long outside. The factors are the registers as they were.
 fn mac_with_load(g: &mut [u32; 16], pc: u32, mask: u32, mem: &[u8], op: u32, w: u32) -> Product
     requires { ⌜ (w / 0x800 % 2 ≡ 0 → ⊥) ⌝ }
-    ensures { λ p. ⌜ ((sr : ℕ) (e : Emac) → onceSummed p sr e (now (g .exit)) ≡ agreedProduct p (macWithLoad (now (g .entry)) pc sr mask (now (mem .entry)) op w) sr e (now (g .entry))) ⌝ }
+    ensures { λ p. ⌜ ((sr : ℕ) (e : Emac) → onceSummed p sr e (now (g .exit)) ≡ agreedProduct p (macWithLoad (now (g .entry)) pc sr mask (mapped (now (mem .entry))) op w) sr e (now (g .entry))) ⌝ }
 {
     let Spot::At(a, next, moved) = load_spot(&*g, pc, mask, mem, op, w) else {
         return Product::Left;
@@ -93,7 +94,7 @@ fn mac_with_load(g: &mut [u32; 16], pc: u32, mask: u32, mem: &[u8], op: u32, w: 
 
 // Of either form. Left: word operands, bit 11 of the second word clear.
 fn mac_product(g: &mut [u32; 16], pc: u32, mask: u32, mem: &[u8], op: u32) -> Product
-    ensures { λ p. ⌜ ((sr : ℕ) (e : Emac) → onceSummed p sr e (now (g .exit)) ≡ agreedProduct p (mac (now (g .entry)) pc sr mask (now (mem .entry)) op) sr e (now (g .entry))) ⌝ }
+    ensures { λ p. ⌜ ((sr : ℕ) (e : Emac) → onceSummed p sr e (now (g .exit)) ≡ agreedProduct p (mac (now (g .entry)) pc sr mask (mapped (now (mem .entry))) op) sr e (now (g .entry))) ⌝ }
 {
     let Got::Value(w) = load(mem, plus(pc, 2), Size::Word) else {
         return Product::Left;
@@ -118,7 +119,7 @@ pub fn quick_mac(
     mem: &[u8],
     op: u32,
 ) -> Summed
-    ensures { λ r. ⌜ afterMac r sr macsr mask (now (acc .exit)) (now (g .exit)) ≡ agreedMac r (mac (now (g .entry)) pc sr mask (now (mem .entry)) op) sr (emacOf macsr mask (now (acc .entry))) (now (g .entry)) ⌝ }
+    ensures { λ r. ⌜ afterMac r sr macsr mask (now (acc .exit)) (now (g .exit)) ≡ agreedMac r (mac (now (g .entry)) pc sr mask (mapped (now (mem .entry))) op) sr (emacOf macsr mask (now (acc .entry))) (now (g .entry)) ⌝ }
 {
     let Product::Of(next, i, scale, sub, x, y) = mac_product(g, pc, mask, mem, op) else {
         return Summed::Left;

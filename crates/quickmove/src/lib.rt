@@ -26,6 +26,7 @@ use word::word::sign_extended;
 use word::word::size_of;
 ghost use mathlib.Core.Path.{_≡_};
 ghost use Prim.Native.Nat.{_+_, _*_, _/_, _%_};
+ghost use Rattle.manual.specs.Memory.{mapped};
 ghost use Rattle.manual.specs.declared.Size.the-variants.{Long};
 ghost use Rattle.instructions.specs.Moves.{move as moveOf, moveAddress};
 ghost use Rattle.instructions.specs.Line4.{lea as leaOf, clear};
@@ -33,7 +34,7 @@ ghost use Rattle.inplace.specs.Effects.{after, agreed};
 
 // Moves.move Long
 pub fn move_long(g: &mut [u32; 16], pc: u32, sr: u16, mem: &mut [u8], op: u32) -> Effect
-    ensures { λ r. ⌜ after r (now (g .exit)) (now (mem .exit)) ≡ agreed r (moveOf Long (now (g .entry)) pc sr (now (mem .entry)) op) sr (now (g .entry)) (now (mem .entry)) ⌝ }
+    ensures { λ r. ⌜ after r (now (g .exit)) (now (mem .exit)) ≡ agreed r (moveOf Long (now (g .entry)) pc sr (mapped (now (mem .entry))) op) sr (now (g .entry)) (mapped (now (mem .entry))) ⌝ }
 {
     let Reading::Read(v, next, first) = read_long(&*g, &*mem, plus(pc, 2), op) else {
         return Effect::Left;
@@ -54,7 +55,7 @@ pub fn move_long(g: &mut [u32; 16], pc: u32, sr: u16, mem: &mut [u8], op: u32) -
 
 // Moves.moveAddress Long
 pub fn move_address(g: &mut [u32; 16], pc: u32, sr: u16, mem: &[u8], op: u32) -> Effect
-    ensures { λ r. ⌜ after r (now (g .exit)) (now (mem .entry)) ≡ agreed r (moveAddress Long (now (g .entry)) pc sr (now (mem .entry)) op) sr (now (g .entry)) (now (mem .entry)) ⌝ }
+    ensures { λ r. ⌜ after r (now (g .exit)) (now (mem .entry)) ≡ agreed r (moveAddress Long (now (g .entry)) pc sr (mapped (now (mem .entry))) op) sr (now (g .entry)) (mapped (now (mem .entry))) ⌝ }
 {
     let Reading::Read(v, next, first) = read_long(&*g, mem, plus(pc, 2), op) else {
         return Effect::Left;
@@ -70,7 +71,7 @@ pub fn move_address(g: &mut [u32; 16], pc: u32, sr: u16, mem: &[u8], op: u32) ->
 
 // Line4.lea, of d16(An) and of an absolute word
 pub fn lea(g: &mut [u32; 16], pc: u32, sr: u16, mem: &[u8], op: u32) -> Effect
-    ensures { λ r. ⌜ after r (now (g .exit)) (now (mem .entry)) ≡ agreed r (leaOf (now (g .entry)) pc sr (now (mem .entry)) op) sr (now (g .entry)) (now (mem .entry)) ⌝ }
+    ensures { λ r. ⌜ after r (now (g .exit)) (now (mem .entry)) ≡ agreed r (leaOf (now (g .entry)) pc sr (mapped (now (mem .entry))) op) sr (now (g .entry)) (mapped (now (mem .entry))) ⌝ }
 {
     let at = plus(pc, 2);
     let d = match load(mem, at, Size::Word) {
@@ -103,7 +104,7 @@ pub fn lea(g: &mut [u32; 16], pc: u32, sr: u16, mem: &[u8], op: u32) -> Effect
 
 // Line4.clear
 pub fn clear_place(g: &mut [u32; 16], pc: u32, sr: u16, mem: &mut [u8], op: u32) -> Effect
-    ensures { λ r. ⌜ after r (now (g .exit)) (now (mem .exit)) ≡ agreed r (clear (now (g .entry)) pc sr (now (mem .entry)) op) sr (now (g .entry)) (now (mem .entry)) ⌝ }
+    ensures { λ r. ⌜ after r (now (g .exit)) (now (mem .exit)) ≡ agreed r (clear (now (g .entry)) pc sr (mapped (now (mem .entry))) op) sr (now (g .entry)) (mapped (now (mem .entry))) ⌝ }
 {
     let z = size_of(op / 64);
     let at = plus(pc, 2);

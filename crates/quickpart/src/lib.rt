@@ -25,8 +25,8 @@ use word::word::plus;
 use word::word::sign_extended;
 use word::word::size_of;
 ghost use mathlib.Core.Path.{_≡_};
-ghost use mathlib.Core.List.{List};
 ghost use Prim.Native.Nat.{ℕ, _+_, _*_, _/_, _%_};
+ghost use Rattle.manual.specs.Memory.{Memory, mapped, storageOf};
 ghost use Rattle.manual.specs.declared.Size.the-variants.{Word};
 ghost use Rattle.manual.specs.declared.Emac.{Emac};
 ghost use Rattle.manual.specs.Word.{plus as plusOf, sizeOf};
@@ -51,7 +51,7 @@ fn move_part(
     next: u32,
     first: Write,
 ) -> Effect
-    ensures { λ r. ⌜ ((at : ℕ) → source (now (g .entry)) (now (mem .entry)) (plusOf at 2) op z ≡ readAs v next first → after r (now (g .exit)) (now (mem .exit)) ≡ agreed r (moveOf z (now (g .entry)) at sr (now (mem .entry)) op) sr (now (g .entry)) (now (mem .entry))) ⌝ }
+    ensures { λ r. ⌜ ((at : ℕ) → source (now (g .entry)) (mapped (now (mem .entry))) (plusOf at 2) op z ≡ readAs v next first → after r (now (g .exit)) (now (mem .exit)) ≡ agreed r (moveOf z (now (g .entry)) at sr (mapped (now (mem .entry))) op) sr (now (g .entry)) (mapped (now (mem .entry)))) ⌝ }
 {
     let codes = move_codes(z, v, sr);
     if op / 64 % 8 == 0 {
@@ -69,7 +69,7 @@ fn move_part(
 
 // Moves.moveAddress Word
 fn move_address(g: &mut [u32; 16], sr: u16, op: u32, v: u32, next: u32, first: Write) -> Effect
-    ensures { λ r. ⌜ ((at : ℕ) (m : List ℕ) → source (now (g .entry)) m (plusOf at 2) op Word ≡ readAs v next first → after r (now (g .exit)) m ≡ agreed r (moveAddress Word (now (g .entry)) at sr m op) sr (now (g .entry)) m) ⌝ }
+    ensures { λ r. ⌜ ((at : ℕ) (m : Memory) → source (now (g .entry)) m (plusOf at 2) op Word ≡ readAs v next first → after r (now (g .exit)) (storageOf m) ≡ agreed r (moveAddress Word (now (g .entry)) at sr m op) sr (now (g .entry)) m) ⌝ }
 {
     let codes = kept_codes(sr);
     let whole = sign_extended(Size::Word, v);
@@ -82,7 +82,7 @@ fn move_address(g: &mut [u32; 16], sr: u16, op: u32, v: u32, next: u32, first: W
 
 // Line7.moveZero
 fn move_zero(g: &mut [u32; 16], sr: u16, op: u32, v: u32, next: u32, first: Write) -> Effect
-    ensures { λ r. ⌜ ((at : ℕ) (m : List ℕ) → source (now (g .entry)) m (plusOf at 2) op (sizeOf (op / 64 % 2)) ≡ readAs v next first → after r (now (g .exit)) m ≡ agreed r (moveZero (now (g .entry)) at sr m op) sr (now (g .entry)) m) ⌝ }
+    ensures { λ r. ⌜ ((at : ℕ) (m : Memory) → source (now (g .entry)) m (plusOf at 2) op (sizeOf (op / 64 % 2)) ≡ readAs v next first → after r (now (g .exit)) (storageOf m) ≡ agreed r (moveZero (now (g .entry)) at sr m op) sr (now (g .entry)) m) ⌝ }
 {
     let codes = long_move_codes(v, sr);
     settled(g, sr, done(next, codes, first, write_data(op / 512, v)))
@@ -90,7 +90,7 @@ fn move_zero(g: &mut [u32; 16], sr: u16, op: u32, v: u32, next: u32, first: Writ
 
 // Line7.moveSigned
 fn move_signed(g: &mut [u32; 16], sr: u16, op: u32, v: u32, next: u32, first: Write) -> Effect
-    ensures { λ r. ⌜ ((at : ℕ) (m : List ℕ) → source (now (g .entry)) m (plusOf at 2) op (sizeOf (op / 64 % 2)) ≡ readAs v next first → after r (now (g .exit)) m ≡ agreed r (moveSigned (now (g .entry)) at sr m op) sr (now (g .entry)) m) ⌝ }
+    ensures { λ r. ⌜ ((at : ℕ) (m : Memory) → source (now (g .entry)) m (plusOf at 2) op (sizeOf (op / 64 % 2)) ≡ readAs v next first → after r (now (g .exit)) (storageOf m) ≡ agreed r (moveSigned (now (g .entry)) at sr m op) sr (now (g .entry)) m) ⌝ }
 {
     let whole = sign_extended(size_of(op / 64 % 2), v);
     let codes = long_move_codes(whole, sr);
@@ -99,7 +99,7 @@ fn move_signed(g: &mut [u32; 16], sr: u16, op: u32, v: u32, next: u32, first: Wr
 
 // Line4.test
 fn test_part(g: &mut [u32; 16], sr: u16, op: u32, v: u32, next: u32, first: Write) -> Effect
-    ensures { λ r. ⌜ ((at : ℕ) (m : List ℕ) → source (now (g .entry)) m (plusOf at 2) op (sizeOf (op / 64)) ≡ readAs v next first → after r (now (g .exit)) m ≡ agreed r (test (now (g .entry)) at sr m op) sr (now (g .entry)) m) ⌝ }
+    ensures { λ r. ⌜ ((at : ℕ) (m : Memory) → source (now (g .entry)) m (plusOf at 2) op (sizeOf (op / 64)) ≡ readAs v next first → after r (now (g .exit)) (storageOf m) ≡ agreed r (test (now (g .entry)) at sr m op) sr (now (g .entry)) m) ⌝ }
 {
     let codes = move_codes(size_of(op / 64), v, sr);
     settled(g, sr, done(next, codes, first, no_write()))
@@ -115,7 +115,7 @@ fn multiply_words(
     next: u32,
     first: Write,
 ) -> Effect
-    ensures { λ r. ⌜ ((at : ℕ) (m : List ℕ) → source (now (g .entry)) m (plusOf at 2) op Word ≡ readAs v next first → after r (now (g .exit)) m ≡ agreed r (multiplyWords signs (now (g .entry)) at sr m op) sr (now (g .entry)) m) ⌝ }
+    ensures { λ r. ⌜ ((at : ℕ) (m : Memory) → source (now (g .entry)) m (plusOf at 2) op Word ≡ readAs v next first → after r (now (g .exit)) (storageOf m) ≡ agreed r (multiplyWords signs (now (g .entry)) at sr m op) sr (now (g .entry)) m) ⌝ }
 {
     let r = product(signs, data(&*g, op / 512), v);
     let codes = long_move_codes(r, sr);
@@ -136,7 +136,7 @@ fn part_of(row: u8, op: u32) -> Size
 
 // Of the rows named here; any other is left.
 pub fn part(row: u8, g: &mut [u32; 16], pc: u32, sr: u16, mem: &mut [u8], op: u32) -> Effect
-    ensures { λ r. ⌜ ((other : ℕ) (e : Emac) → after r (now (g .exit)) (now (mem .exit)) ≡ agreed r (ofRow row (now (g .entry)) pc sr other e (now (mem .entry)) op) sr (now (g .entry)) (now (mem .entry))) ⌝ }
+    ensures { λ r. ⌜ ((other : ℕ) (e : Emac) → after r (now (g .exit)) (now (mem .exit)) ≡ agreed r (ofRow row (now (g .entry)) pc sr other e (mapped (now (mem .entry))) op) sr (now (g .entry)) (mapped (now (mem .entry)))) ⌝ }
 {
     let z = part_of(row, op);
     let Reading::Read(v, next, first) = read(z, &*g, &*mem, plus(pc, 2), op) else {

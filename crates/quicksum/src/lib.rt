@@ -26,8 +26,8 @@ use word::word::plus;
 use word::word::sign_extended;
 ghost use mathlib.Core.Path.{_≡_};
 ghost use mathlib.Core.Bool.{true, false};
-ghost use mathlib.Core.List.{List};
 ghost use Prim.Native.Nat.{ℕ, _+_, _*_, _/_, _%_};
+ghost use Rattle.manual.specs.Memory.{Memory, mapped, storageOf};
 ghost use Rattle.manual.specs.declared.Size.the-variants.{Long};
 ghost use Rattle.instructions.specs.Line0.{compareImmediate};
 ghost use Rattle.instructions.specs.Line5.{quick as quickOf};
@@ -37,7 +37,7 @@ ghost use Rattle.inplace.specs.Effects.{after, agreed};
 
 // LineB.compareData, of a long
 pub fn compare_data(g: &mut [u32; 16], pc: u32, sr: u16, mem: &[u8], op: u32) -> Effect
-    ensures { λ r. ⌜ after r (now (g .exit)) (now (mem .entry)) ≡ agreed r (compareData (now (g .entry)) pc sr (now (mem .entry)) op) sr (now (g .entry)) (now (mem .entry)) ⌝ }
+    ensures { λ r. ⌜ after r (now (g .exit)) (now (mem .entry)) ≡ agreed r (compareData (now (g .entry)) pc sr (mapped (now (mem .entry))) op) sr (now (g .entry)) (mapped (now (mem .entry))) ⌝ }
 {
     if op / 64 % 4 != 2 {
         return Effect::Left;
@@ -52,7 +52,7 @@ pub fn compare_data(g: &mut [u32; 16], pc: u32, sr: u16, mem: &[u8], op: u32) ->
 
 // LineB.compareAddress Long
 pub fn compare_address(g: &mut [u32; 16], pc: u32, sr: u16, mem: &[u8], op: u32) -> Effect
-    ensures { λ r. ⌜ after r (now (g .exit)) (now (mem .entry)) ≡ agreed r (compareAddress Long (now (g .entry)) pc sr (now (mem .entry)) op) sr (now (g .entry)) (now (mem .entry)) ⌝ }
+    ensures { λ r. ⌜ after r (now (g .exit)) (now (mem .entry)) ≡ agreed r (compareAddress Long (now (g .entry)) pc sr (mapped (now (mem .entry))) op) sr (now (g .entry)) (mapped (now (mem .entry))) ⌝ }
 {
     let Reading::Read(v, next, first) = read_long(&*g, mem, plus(pc, 2), op) else {
         return Effect::Left;
@@ -64,7 +64,7 @@ pub fn compare_address(g: &mut [u32; 16], pc: u32, sr: u16, mem: &[u8], op: u32)
 
 // Line9D.toData true, of a long
 pub fn add_to_data(g: &mut [u32; 16], pc: u32, sr: u16, mem: &[u8], op: u32) -> Effect
-    ensures { λ r. ⌜ after r (now (g .exit)) (now (mem .entry)) ≡ agreed r (toData true (now (g .entry)) pc (now (mem .entry)) op) sr (now (g .entry)) (now (mem .entry)) ⌝ }
+    ensures { λ r. ⌜ after r (now (g .exit)) (now (mem .entry)) ≡ agreed r (toData true (now (g .entry)) pc (mapped (now (mem .entry))) op) sr (now (g .entry)) (mapped (now (mem .entry))) ⌝ }
 {
     if op / 64 % 4 != 2 {
         return Effect::Left;
@@ -80,7 +80,7 @@ pub fn add_to_data(g: &mut [u32; 16], pc: u32, sr: u16, mem: &[u8], op: u32) -> 
 
 // Line9D.toData false, of a long
 pub fn sub_to_data(g: &mut [u32; 16], pc: u32, sr: u16, mem: &[u8], op: u32) -> Effect
-    ensures { λ r. ⌜ after r (now (g .exit)) (now (mem .entry)) ≡ agreed r (toData false (now (g .entry)) pc (now (mem .entry)) op) sr (now (g .entry)) (now (mem .entry)) ⌝ }
+    ensures { λ r. ⌜ after r (now (g .exit)) (now (mem .entry)) ≡ agreed r (toData false (now (g .entry)) pc (mapped (now (mem .entry))) op) sr (now (g .entry)) (mapped (now (mem .entry))) ⌝ }
 {
     if op / 64 % 4 != 2 {
         return Effect::Left;
@@ -96,7 +96,7 @@ pub fn sub_to_data(g: &mut [u32; 16], pc: u32, sr: u16, mem: &[u8], op: u32) -> 
 
 // Line9D.toAddress true Long
 pub fn add_to_address(g: &mut [u32; 16], pc: u32, sr: u16, mem: &[u8], op: u32) -> Effect
-    ensures { λ r. ⌜ after r (now (g .exit)) (now (mem .entry)) ≡ agreed r (toAddress true Long (now (g .entry)) pc sr (now (mem .entry)) op) sr (now (g .entry)) (now (mem .entry)) ⌝ }
+    ensures { λ r. ⌜ after r (now (g .exit)) (now (mem .entry)) ≡ agreed r (toAddress true Long (now (g .entry)) pc sr (mapped (now (mem .entry))) op) sr (now (g .entry)) (mapped (now (mem .entry))) ⌝ }
 {
     let Reading::Read(v, next, first) = read_long(&*g, mem, plus(pc, 2), op) else {
         return Effect::Left;
@@ -113,7 +113,7 @@ pub fn add_to_address(g: &mut [u32; 16], pc: u32, sr: u16, mem: &[u8], op: u32) 
 
 // Line9D.toAddress false Long
 pub fn sub_to_address(g: &mut [u32; 16], pc: u32, sr: u16, mem: &[u8], op: u32) -> Effect
-    ensures { λ r. ⌜ after r (now (g .exit)) (now (mem .entry)) ≡ agreed r (toAddress false Long (now (g .entry)) pc sr (now (mem .entry)) op) sr (now (g .entry)) (now (mem .entry)) ⌝ }
+    ensures { λ r. ⌜ after r (now (g .exit)) (now (mem .entry)) ≡ agreed r (toAddress false Long (now (g .entry)) pc sr (mapped (now (mem .entry))) op) sr (now (g .entry)) (mapped (now (mem .entry))) ⌝ }
 {
     let Reading::Read(v, next, first) = read_long(&*g, mem, plus(pc, 2), op) else {
         return Effect::Left;
@@ -130,7 +130,7 @@ pub fn sub_to_address(g: &mut [u32; 16], pc: u32, sr: u16, mem: &[u8], op: u32) 
 
 // Line5.quick, of a long in Dn
 pub fn quick_data(g: &mut [u32; 16], pc: u32, sr: u16, op: u32) -> Effect
-    ensures { λ r. ⌜ ((m : List ℕ) → after r (now (g .exit)) m ≡ agreed r (quickOf (now (g .entry)) pc m op) sr (now (g .entry)) m) ⌝ }
+    ensures { λ r. ⌜ ((m : Memory) → after r (now (g .exit)) (storageOf m) ≡ agreed r (quickOf (now (g .entry)) pc m op) sr (now (g .entry)) m) ⌝ }
 {
     if op / 8 % 8 != 0 {
         return Effect::Left;
@@ -153,7 +153,7 @@ pub fn quick_data(g: &mut [u32; 16], pc: u32, sr: u16, op: u32) -> Effect
 
 // Line0.compareImmediate Long
 pub fn compare_immediate(g: &mut [u32; 16], pc: u32, sr: u16, mem: &[u8], op: u32) -> Effect
-    ensures { λ r. ⌜ after r (now (g .exit)) (now (mem .entry)) ≡ agreed r (compareImmediate Long (now (g .entry)) pc sr (now (mem .entry)) op) sr (now (g .entry)) (now (mem .entry)) ⌝ }
+    ensures { λ r. ⌜ after r (now (g .exit)) (now (mem .entry)) ≡ agreed r (compareImmediate Long (now (g .entry)) pc sr (mapped (now (mem .entry))) op) sr (now (g .entry)) (mapped (now (mem .entry))) ⌝ }
 {
     let at = plus(pc, 2);
     let v = match load(mem, at, Size::Long) {

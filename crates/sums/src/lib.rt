@@ -29,10 +29,11 @@ use word::word::size_of;
 ghost use mathlib.Core.Path.{_≡_};
 ghost use Prim.Native.Nat.{_+_, _*_, _/_, _%_};
 ghost use Rattle.instructions.specs.Line9D.{toData, toPlace, toMemory, moreOrLess, toAddress, withX};
+ghost use Rattle.manual.specs.Memory.{mapped};
 ghost use Rattle.manual.specs.Differences.{anySize};
 
 pub fn to_data(add: bool, g: &[u32; 16], at: u32, mem: &[u8], op: u32) -> Change
-    ensures { λ e. ⌜ e ≡ toData add (now (g .entry)) at (now (mem .entry)) op ⌝ }
+    ensures { λ e. ⌜ e ≡ toData add (now (g .entry)) at (mapped (now (mem .entry))) op ⌝ }
 {
     let z = size_of(op / 64);
     let from = source(g, mem, plus(at, 2), op, z);
@@ -55,7 +56,7 @@ pub fn to_data(add: bool, g: &[u32; 16], at: u32, mem: &[u8], op: u32) -> Change
 }
 
 pub fn to_place(add: bool, z: Size, g: &[u32; 16], at: u32, mem: &[u8], op: u32, n: u32) -> Change
-    ensures { λ e. ⌜ e ≡ toPlace add z (now (g .entry)) at (now (mem .entry)) op n ⌝ }
+    ensures { λ e. ⌜ e ≡ toPlace add z (now (g .entry)) at (mapped (now (mem .entry))) op n ⌝ }
 {
     let target = operand(op / 8 % 8, op % 8);
     let pc = plus(at, 2);
@@ -72,7 +73,7 @@ pub fn to_place(add: bool, z: Size, g: &[u32; 16], at: u32, mem: &[u8], op: u32,
 }
 
 pub fn to_memory(add: bool, g: &[u32; 16], at: u32, mem: &[u8], op: u32) -> Change
-    ensures { λ e. ⌜ e ≡ toMemory add (now (g .entry)) at (now (mem .entry)) op ⌝ }
+    ensures { λ e. ⌜ e ≡ toMemory add (now (g .entry)) at (mapped (now (mem .entry))) op ⌝ }
 {
     to_place(add, size_of(op / 64), g, at, mem, op, data(g, op / 512))
 }
@@ -92,7 +93,7 @@ pub fn to_address(
     mem: &[u8],
     op: u32,
 ) -> Change
-    ensures { λ e. ⌜ e ≡ toAddress add z (now (g .entry)) at sr (now (mem .entry)) op ⌝ }
+    ensures { λ e. ⌜ e ≡ toAddress add z (now (g .entry)) at sr (mapped (now (mem .entry))) op ⌝ }
 {
     let from = source(g, mem, plus(at, 2), op, z);
     let got = from.got;

@@ -1,24 +1,52 @@
--- `blockcalls::block_reply` meets its contract. Assumes nothing.
-use borrow.Author.Needs.{needs}
-use borrow.Author.Tests.{lt-ltb, le-ltb}
+use borrow.Author.Tests.{eq-eqb, ne-eqb}
 use Rattle.blockcalls.specs.Calls.{blockReply}
-use Rattle.blockcalls.proofs.ReplyLaws.{stands}
+use borrow.Author.Needs.{needs}
 use Rattle.blockcalls.proofs.block_reply.Statement.{statement}
 use Rattle.blockcalls.proofs.block_reply.Tie as tie
+use Rattle.blockcalls.proofs.block_reply.Reads as reads
+use Rattle.blockcalls.proofs.block_reply.Lts as lts
+use Rattle.replies.proofs.is_done.Reads as is-done-reads
+use Rattle.replies.proofs.number_of.Reads as number-of-reads
+use Rattle.statusregister.proofs.lent_refusal.Reads as lent-refusal-reads
 
+-- src/lib.rt:28:8
+number-of-requires : tie.Need-number-of-requires
+number-of-requires c κs = search needs
+
+-- src/lib.rt:29:9
+returns : tie.Need-returns
+unfolding blockReply
+returns c = rw (← c .before .number-of .ensures .0, ne-eqb _ _ (c .if1 .taken))
+
+-- src/lib.rt:31:9
+lent-refusal-requires : tie.Need-lent-refusal-requires
+lent-refusal-requires c κs = search needs
+
+-- src/lib.rt:32:8
+is-done-requires : tie.Need-is-done-requires
+is-done-requires c κs = search needs
+
+-- src/lib.rt:25:1
 returns-2 : tie.Need-returns-2
 unfolding blockReply
-returns-2 c = rw (c .before .enum-told .given .1, lt-ltb _ _ (c .if1 .taken))
+returns-2 c =
+    let c1 = c .before in let c2 = c1 .before in let c3 = c2 .before in let c4 = c3 .before in
+    rw (← c4 .number-of .ensures .0, eq-eqb _ _ (c3 .if1 .left), ← c2 .lent-refusal .ensures, ← c1 .is-done .ensures, c .if2 .taken)
 
+-- src/lib.rt:25:1
 returns-3 : tie.Need-returns-3
 unfolding blockReply
-returns-3 c = rw (c .before .enum-told .given .1, le-ltb _ _ (c .if1 .left))
+returns-3 c =
+    let c1 = c .before in let c2 = c1 .before in let c3 = c2 .before in let c4 = c3 .before in
+    rw (← c4 .number-of .ensures .0, eq-eqb _ _ (c3 .if1 .left), ← c2 .lent-refusal .ensures, ← c1 .is-done .ensures, c .if2 .left)
 
 pub block-reply-spec : {M : Type 1} → statement M
 block-reply-spec =
     tie.close
     (tie.spec
-    (λ c. search needs)
-    (λ c. stands _ _ (c .match .keys2))
+    number-of-requires
+    returns
+    lent-refusal-requires
+    is-done-requires
     returns-2
     returns-3)

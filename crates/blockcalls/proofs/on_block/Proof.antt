@@ -4,6 +4,7 @@ use borrow.Author.Tests.{not-true, not-false}
 use native.Mathlib.Omega.{arith}
 use denote.Ref.{now}
 use Rattle.manual.specs.declared.Cpu.{Cpu}
+use Rattle.manual.specs.Lent.{lent}
 use Rattle.blockcalls.specs.Made.{made}
 use Rattle.blockcalls.specs.CallLaws.{refused-is, made-is}
 use Rattle.blockcalls.proofs.on_block.Statement.{statement}
@@ -23,7 +24,7 @@ returns-2 c =
     let d = s .before .before .before in
     let o = d .before .before in
     let a = o .before .before .before .before .before .args in
-    made-is _ _ (o .opened .result) (d .is-done .result) (o .opened .ensures) (d .is-done .ensures) 0 (λ (x : Cpu). made (a .call) x (now (a .mem))) (s .made .result) _ (e .is-done2 .result) _ _
+    made-is _ _ (o .opened .result) (d .is-done .result) (o .opened .ensures) (d .is-done .ensures) 0 (λ (x : Cpu). made (a .call) x (lent (now (a .mem)))) (s .made .result) _ (e .is-done2 .result) _ _
     (not-false (d .is-done .result) (s .before .before .if1 .left)) (s .made .ensures) (e .is-done2 .ensures) (t .settle .ensures) (omega (arith, c .number-of2 .ensures .0))
 
 pub on-block-spec : {M : Type 1} → statement M

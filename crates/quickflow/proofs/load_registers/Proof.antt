@@ -1,3 +1,4 @@
+-- `quickflow::load_registers` meets its contract. Assumes nothing.
 use borrow.Author.Tests.{eq-eqb, ne-eqb}
 use Rattle.inplace.specs.Effects.{inPlace}
 use Rattle.manual.specs.Registers.{written, noWrite}
@@ -10,26 +11,24 @@ use Rattle.quickflow.proofs.load_registers.Tie as tie
 returns-2 : tie.Need-returns-2
 unfolding inPlace moveMany many acting written noWrite
 returns-2 c =
-    let c1 = c .before in let c2 = c1 .before in let c3 = c2 .before in let c4 = c3 .before in let c5 = c4 .before in let c6 = c5 .before in let c7 = c6 .before in let c8 = c7 .before in let c9 = c8 .before in let c10 = c9 .before in let c11 = c10 .before in let c12 = c11 .before in let c13 = c12 .before in
-    let s = c2 .load-many in
-    rw (← c13 .plus .ensures, ← c12 .load .ensures, c10 .mask .given .1, eq-eqb _ _ (c4 .if1 .taken), ← c7 .address .ensures, ← c6 .kept-codes .ensures, ← c5 .coded .ensures, ← c .plus2 .ensures, ← s .ensures .0, s .ensures .1, c1 .if2 .taken)
+    let c1 = c .before in let c2 = c1 .before in let c3 = c2 .before in let c4 = c3 .before in let c5 = c4 .before in let c6 = c5 .before in let c7 = c6 .before in let c8 = c7 .before in let c9 = c8 .before in let c10 = c9 .before in let c11 = c10 .before in let c12 = c11 .before in let c13 = c12 .before in let c14 = c13 .before in
+    let s = c3 .load-many in
+    rw (← c14 .plus .ensures, ← c13 .load .ensures, c11 .mask .given .1, eq-eqb _ _ (c5 .if1 .taken), ← c8 .address .ensures, ← c7 .kept-codes .ensures, ← c6 .coded .ensures, ← c .plus2 .ensures, ← s .ensures .0, s .ensures .1, c1 .enum-told2 .given .1)
 
 returns-3 : tie.Need-returns-3
 returns-3 c =
-    let c1 = c .before in
-    rw (c1 .load-many .ensures .1, c .if2 .left)
+    rw (c .before .before .load-many .ensures .1, c .enum-told3 .given .1)
 
 returns-6 : tie.Need-returns-6
 unfolding inPlace moveMany many acting written noWrite
 returns-6 c =
-    let c1 = c .before in let c2 = c1 .before in let c3 = c2 .before in let c4 = c3 .before in let c5 = c4 .before in let c6 = c5 .before in let c7 = c6 .before in let c8 = c7 .before in let c9 = c8 .before in let c10 = c9 .before in let c11 = c10 .before in let c12 = c11 .before in let c13 = c12 .before in let c14 = c13 .before in let c15 = c14 .before in let c16 = c15 .before in let c17 = c16 .before in let c18 = c17 .before in let c19 = c18 .before in let c20 = c19 .before in let c21 = c20 .before in
-    let s = c2 .load-many2 in
-    rw (← c21 .plus .ensures, ← c20 .load .ensures, c18 .mask .given .1, ne-eqb _ _ (c12 .if1 .left), eq-eqb _ _ (c11 .if3 .left), ← c15 .address .ensures, ← c10 .plus3 .ensures, ← c9 .load2 .ensures, c7 .d .given .1, ← c5 .sign-extended .ensures, ← c4 .plus4 .ensures, ← c14 .kept-codes .ensures, ← c13 .coded .ensures, ← c .plus5 .ensures, ← s .ensures .0, s .ensures .1, c1 .if4 .taken)
+    let c1 = c .before in let c2 = c1 .before in let c3 = c2 .before in let c4 = c3 .before in let c5 = c4 .before in let c6 = c5 .before in let c7 = c6 .before in let c8 = c7 .before in let c9 = c8 .before in let c10 = c9 .before in let c11 = c10 .before in let c12 = c11 .before in let c13 = c12 .before in let c14 = c13 .before in let c15 = c14 .before in let c16 = c15 .before in let c17 = c16 .before in let c18 = c17 .before in let c19 = c18 .before in let c20 = c19 .before in let c21 = c20 .before in let c22 = c21 .before in
+    let s = c3 .load-many2 in
+    rw (← c22 .plus .ensures, ← c21 .load .ensures, c19 .mask .given .1, ne-eqb _ _ (c13 .if1 .left), eq-eqb _ _ (c12 .if2 .left), ← c16 .address .ensures, ← c11 .plus3 .ensures, ← c10 .load2 .ensures, c8 .d .given .1, ← c6 .sign-extended .ensures, ← c5 .plus4 .ensures, ← c15 .kept-codes .ensures, ← c14 .coded .ensures, ← c .plus5 .ensures, ← s .ensures .0, s .ensures .1, c1 .enum-told5 .given .1)
 
 returns-7 : tie.Need-returns-7
 returns-7 c =
-    let c1 = c .before in
-    rw (c1 .load-many2 .ensures .1, c .if4 .left)
+    rw (c .before .before .load-many2 .ensures .1, c .enum-told6 .given .1)
 
 pub load-registers-spec : {M : Type 1} → statement M
 load-registers-spec =
@@ -44,7 +43,9 @@ load-registers-spec =
     (λ c κs. search needs)
     (λ c κs. search needs)
     (λ c κs. search needs)
+    (λ c. search needs)
     (λ c κs. search needs)
+    (λ c. search needs)
     returns-2
     returns-3
     (λ c. search needs)
@@ -56,6 +57,8 @@ load-registers-spec =
     (λ c κs. search needs)
     (λ c κs. search needs)
     (λ c κs. search needs)
+    (λ c. search needs)
     (λ c κs. search needs)
+    (λ c. search needs)
     returns-6
     returns-7)

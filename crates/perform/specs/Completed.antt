@@ -3,5 +3,5 @@ use Rattle.manual.specs.declared.Cpu.{Cpu}
 use Rattle.manual.specs.declared.Reply.the-variants.{Done}
 use Rattle.manual.specs.declared.Stepped.{Stepped}
 
-abbrev pub quietly : Cpu → Stepped
-quietly s = record { reply = Done; vector = 0; cpu = s }
+abbrev pub completedStep : Cpu → Stepped
+completedStep s = record { reply = Done; vector = 0; cpu = s }
