@@ -3,15 +3,19 @@
 --
 -- A step fetches its opcode word, makes the reads of the word's row, and then the accesses of what the instruction leaves to be done.
 -- The reads stand in tables, line by line and row by row in the order of the rows. Where a read's address hangs on a word that was read
--- before it, that word is taken from memory as it stands. Assumes nothing.
-use Prim.Native.Nat.{ℕ, zero, suc, _+_, _/_, _%_, _<_}
+-- before it, that word is what a load finds there. Assumes nothing.
+use Prim.Native.Nat.{ℕ, zero, suc, _+_, _/_, _%_}
+use mathlib.Core.Path.{_≡_}
 use mathlib.Core.Bool.{cond}
 use mathlib.Core.List.{List, [], _∷_, _++_}
 use lib.Dec.{eqb, ltb}
-use lib.ListN.{length, getD}
+use lib.ListN.{getD}
 use Rattle.manual.specs.declared.Cpu.{Cpu}
 use Rattle.manual.specs.declared.Size.{Size}
 use Rattle.manual.specs.declared.Size.the-variants.{Byte, Word, Long}
+use Rattle.manual.specs.declared.Fault.the-variants.{Outside as Out}
+use Rattle.manual.specs.declared.Access.the-variants.{Not}
+use Rattle.manual.specs.declared.Stored.the-variants.{Done as Taken}
 use Rattle.manual.specs.declared.Operand.{Operand}
 use Rattle.manual.specs.declared.Operand.the-variants.{Immediate}
 use Rattle.manual.specs.declared.Place.{Place}
@@ -25,7 +29,7 @@ use Rattle.manual.specs.declared.Action.the-variants.{Nothing, Store, StoreMany
 use Rattle.manual.specs.declared.Change.{Change}
 use Rattle.manual.specs.Word.{bytes, plus, minus, sizeOf, signExtended}
 use Rattle.manual.specs.Registers.{addressOf, applied}
-use Rattle.manual.specs.Memory.{numberAt}
+use Rattle.manual.specs.Memory.{Memory, access, taken, numberAt}
 use Rattle.manual.specs.Address.{operand, extension, locate, control}
 use Rattle.manual.specs.Differences.{anySize, vectorPlace}
 use Rattle.manual.specs.Exceptions.{setSr, handling, pcPlace, framePlace}
@@ -34,73 +38,76 @@ use Rattle.instructions.specs.Line6.{displacementBytes}
 use Rattle.instructions.specs.LineA.{loadAddress}
 use Rattle.instructions.specs.Step.{instruction}
 
-pub record Access : Type 0 where
+pub record Wanted : Type 0 where
   pub address : ℕ
   pub count : ℕ
 
-abbrev pub access : ℕ → ℕ → Access
-access a n = record { address = a; count = n }
+abbrev pub wanted : ℕ → ℕ → Wanted
+wanted a n = record { address = a; count = n }
 
--- an access of n bytes at a is not inside
-abbrev pub Outside : List ℕ → ℕ → ℕ → Type 0
-Outside m a n = length m < a + n
+-- an access of n bytes at a is inside, or it is not
+abbrev pub Inside : Memory → ℕ → ℕ → Type 0
+Inside m a n = taken (access m a n) ≡ Taken
+
+abbrev pub Outside : Memory → ℕ → ℕ → Type 0
+Outside m a n = access m a n ≡ Not Out
 
 -- some access of a list is not inside
-pub data SomeOutside (m : List ℕ) : List Access → Type 0 where
-  this : {x : Access} {l : List Access} → Outside m (x .address) (x .count) → SomeOutside m (x ∷ l)
-  another : {x : Access} {l : List Access} → SomeOutside m l → SomeOutside m (x ∷ l)
+pub data SomeOutside (m : Memory) : List Wanted → Type 0 where
+  this : {x : Wanted} {l : List Wanted} → Outside m (x .address) (x .count) → SomeOutside m (x ∷ l)
+  another : {x : Wanted} {l : List Wanted} → SomeOutside m l → SomeOutside m (x ∷ l)
 
 -- ---- the parts
 
-abbrev pub none : List Access
+abbrev pub none : List Wanted
 none = []
 
-abbrev pub wordAt : ℕ → List Access
-wordAt a = access a 2 ∷ []
+abbrev pub wordAt : ℕ → List Wanted
+wordAt a = wanted a 2 ∷ []
 
-abbrev pub longAt : ℕ → List Access
-longAt a = access a 4 ∷ []
+abbrev pub longAt : ℕ → List Wanted
+longAt a = wanted a 4 ∷ []
 
 -- n bytes of the instruction after its opcode word, at pc: one access, and none where n is 0
-abbrev pub words : ℕ → ℕ → List Access
-words pc n = cond (eqb n 0) none (access pc n ∷ [])
+abbrev pub words : ℕ → ℕ → List Wanted
+words pc n = cond (eqb n 0) none (wanted pc n ∷ [])
 
 -- the operand that bits 5 to 0 of a word name
 abbrev pub named : ℕ → Operand
 named op = operand (op / 8 % 8) (op % 8)
 
 -- the bytes of a place: those at its address, where it is in memory
-abbrev pub own : Place → Size → List Access
+abbrev pub own : Place → Size → List Wanted
 own (D r) z = none
 own (A r) z = none
-own (M a) z = access a (bytes z) ∷ []
+own (M a) z = wanted a (bytes z) ∷ []
 own (I v) z = none
 own (NoPlace x) z = none
 
 -- the extension words of the operand that a word names, which lie at pc, and no more
-abbrev pub extensionOf : ℕ → ℕ → Size → List Access
+abbrev pub extensionOf : ℕ → ℕ → Size → List Wanted
 extensionOf pc op z = words pc (extension (named op) z)
 
 -- and then the operand itself
-abbrev pub operandAt : List ℕ → List ℕ → ℕ → ℕ → Size → List Access
+abbrev pub operandAt : List ℕ → Memory → ℕ → ℕ → Size → List Wanted
 operandAt g m pc op z = extensionOf pc op z ++ own (locate g m pc (named op) z) z
 
 -- the extension words of a control mode; a mode that has no address has none
-abbrev pub reachedBy : Reached → List Access → List Access
+abbrev pub reachedBy : Reached → List Wanted → List Wanted
 reachedBy (At got) l = l
 reachedBy NoAddress l = none
 
-abbrev pub controlAt : List ℕ → List ℕ → ℕ → ℕ → List Access
+abbrev pub controlAt : List ℕ → Memory → ℕ → ℕ → List Wanted
 controlAt g m pc op = reachedBy (control g m pc (named op)) (extensionOf pc op Long)
 
 -- ---- the reads of a word op at `at`, by its row
 
-module _ (g : List ℕ) (at : ℕ) (m : List ℕ) (op : ℕ) where
+module _ (g : List ℕ) (at : ℕ) (m : Memory) (op : ℕ) where
   -- the operand that the word names, with its extension words right after the word
-  abbrev pub source : Size → List Access
+  abbrev pub source : Size → List Wanted
   source z = operandAt g m (plus at 2) op z
 
-  unfoldable pub reads0 : ℕ → List Access
+  unfoldable pub reads0 : ℕ → List Wanted
   reads0 row =
       getD
       (none ∷  -- BITREV
@@ -120,28 +127,28 @@ module _ (g : List ℕ) (at : ℕ) (m : List ℕ) (op : ℕ) where
       (placeIn (firstRow 0) row) none  -- ILL_0
 
   -- MOVE: the source, and the extension words of the destination, which lie after the source's
-  abbrev pub moveReads : Size → List Access
+  abbrev pub moveReads : Size → List Wanted
   moveReads z =
       source z ++ words (plus (plus at 2) (extension (named op) z)) (extension (operand (op / 64 % 8) (op / 512 % 8)) z)
 
-  unfoldable pub reads1 : ℕ → List Access
+  unfoldable pub reads1 : ℕ → List Wanted
   reads1 row = getD (source Byte ∷ []) (placeIn (firstRow 1) row) (moveReads Byte)  -- MOVEA_B, MOVE_B
 
-  unfoldable pub reads2 : ℕ → List Access
+  unfoldable pub reads2 : ℕ → List Wanted
   reads2 row = getD (source Long ∷ []) (placeIn (firstRow 2) row) (moveReads Long)  -- MOVEA_L, MOVE_L
 
-  unfoldable pub reads3 : ℕ → List Access
+  unfoldable pub reads3 : ℕ → List Wanted
   reads3 row = getD (source Word ∷ []) (placeIn (firstRow 3) row) (moveReads Word)  -- MOVEA_W, MOVE_W
 
   -- STLDSR: the new status register, where the second word is 0x46FC
-  abbrev pub statusReads : List Access
+  abbrev pub statusReads : List Wanted
   statusReads = wordAt (plus at 2) ++ cond (eqb (numberAt m (plus at 2) Word) 0x46FC) (wordAt (plus at 4)) none
 
   -- MOVEM: the registers' word, and the displacement in mode 5
-  abbrev pub manyReads : List Access
+  abbrev pub manyReads : List Wanted
   manyReads = wordAt (plus at 2) ++ cond (eqb (op / 8 % 8) 5) (wordAt (plus at 4)) none
 
-  unfoldable pub reads4 : ℕ → List Access
+  unfoldable pub reads4 : ℕ → List Wanted
   reads4 row =
       getD
       (none ∷  -- NOP
@@ -186,7 +193,7 @@ module _ (g : List ℕ) (at : ℕ) (m : List ℕ) (op : ℕ) where
       [])
       (placeIn (firstRow 4) row) none  -- ILL_4
 
-  unfoldable pub reads5 : ℕ → List Access
+  unfoldable pub reads5 : ℕ → List Wanted
   reads5 row =
       getD
       (none ∷  -- TPF_W
@@ -201,7 +208,7 @@ module _ (g : List ℕ) (at : ℕ) (m : List ℕ) (op : ℕ) where
       (placeIn (firstRow 5) row) (source (anySize op))  -- ADDQ
 
   -- a branch: the displacement, where it is not in the word
-  unfoldable pub reads6 : ℕ → List Access
+  unfoldable pub reads6 : ℕ → List Wanted
   reads6 row =
       getD
       (words (plus at 2) (displacementBytes (op % 256)) ∷  -- BRA
@@ -209,7 +216,7 @@ module _ (g : List ℕ) (at : ℕ) (m : List ℕ) (op : ℕ) where
       [])
       (placeIn (firstRow 6) row) (words (plus at 2) (displacementBytes (op % 256)))  -- BCC
 
-  unfoldable pub reads7 : ℕ → List Access
+  unfoldable pub reads7 : ℕ → List Wanted
   reads7 row =
       getD
       (source (sizeOf (op / 64 % 2)) ∷  -- MVS
@@ -218,7 +225,7 @@ module _ (g : List ℕ) (at : ℕ) (m : List ℕ) (op : ℕ) where
       (placeIn (firstRow 7) row) none  -- MOVEQ
 
   -- lines 9 and D, from their first row on
-  unfoldable pub reads9D : ℕ → ℕ → List Access
+  unfoldable pub reads9D : ℕ → ℕ → List Wanted
   reads9D first row =
       getD
       (none ∷  -- SUBX_B, ADDX_B
@@ -235,19 +242,19 @@ module _ (g : List ℕ) (at : ℕ) (m : List ℕ) (op : ℕ) where
 
   -- MAC and MSAC: the second word w; and the long of the parallel load, in modes 2 to 5 where w says a long operand. Mode 5 has its
   -- displacement before it
-  abbrev pub loadReads : ℕ → ℕ → List Access
+  abbrev pub loadReads : ℕ → ℕ → List Wanted
   loadReads mask w =
       cond (eqb (op / 8 % 8) 5)
       (wordAt (plus at 4) ++ longAt (loadAddress mask w (plus (addressOf g op) (signExtended Word (numberAt m (plus at 4) Word)))))
       (longAt (loadAddress mask w (cond (eqb (op / 8 % 8) 4) (minus (addressOf g op) 4) (addressOf g op))))
 
-  abbrev pub macReads : ℕ → List Access
+  abbrev pub macReads : ℕ → List Wanted
   macReads mask =
       let w : ℕ = numberAt m (plus at 2) Word in
       wordAt (plus at 2)
       ++ cond (eqb (op / 16 % 4) 0) none (cond (ltb 5 (op / 8 % 8)) none (cond (eqb (w / 0x800 % 2) 0) none (loadReads mask w)))
 
-  unfoldable pub readsA : ℕ → ℕ → List Access
+  unfoldable pub readsA : ℕ → ℕ → List Wanted
   readsA mask row =
       getD
       (none ∷  -- MACSR_CCR
@@ -265,7 +272,7 @@ module _ (g : List ℕ) (at : ℕ) (m : List ℕ) (op : ℕ) where
       [])
       (placeIn (firstRow 0xA) row) (source Long)  -- LINEA
 
-  unfoldable pub readsB : ℕ → List Access
+  unfoldable pub readsB : ℕ → List Wanted
   readsB row =
       getD
       (source Word ∷  -- CMPA_W
@@ -274,7 +281,7 @@ module _ (g : List ℕ) (at : ℕ) (m : List ℕ) (op : ℕ) where
       [])
       (placeIn (firstRow 0xB) row) (source (anySize op))  -- EOR
 
-  unfoldable pub readsC : ℕ → List Access
+  unfoldable pub readsC : ℕ → List Wanted
   readsC row =
       getD
       (source Word ∷  -- MULU_W
@@ -283,7 +290,7 @@ module _ (g : List ℕ) (at : ℕ) (m : List ℕ) (op : ℕ) where
       [])
       (placeIn (firstRow 0xC) row) (source (anySize op))  -- AND_MEM
 
-  unfoldable pub readsF : ℕ → List Access
+  unfoldable pub readsF : ℕ → List Wanted
   readsF row =
       getD
       (controlAt g m (plus at 2) op ∷  -- WDEBUG
@@ -293,7 +300,7 @@ module _ (g : List ℕ) (at : ℕ) (m : List ℕ) (op : ℕ) where
       (placeIn (firstRow 0xF) row) none  -- LINEF
 
   -- the line is the top four bits; a word of line 8 and a shift read nothing. mask is the EMAC's
-  unfoldable pub reads : ℕ → List Access
+  unfoldable pub reads : ℕ → List Wanted
   reads mask =
       let row : ℕ = rowOf op in
       getD
@@ -318,25 +325,25 @@ module _ (g : List ℕ) (at : ℕ) (m : List ℕ) (op : ℕ) where
 -- ---- what an instruction leaves to be done
 
 -- MOVEM: a long for each register of the mask, one after the other from a on; `left` of them are still to come
-abbrev pub manyLongs : ℕ → ℕ → ℕ → List Access
+abbrev pub manyLongs : ℕ → ℕ → ℕ → List Wanted
 manyLongs zero regs a = none
 manyLongs (suc left) regs a =
-    cond (eqb (regs % 2) 1) (access a 4 ∷ manyLongs left (regs / 2) (plus a 4)) (manyLongs left (regs / 2) a)
+    cond (eqb (regs % 2) 1) (wanted a 4 ∷ manyLongs left (regs / 2) (plus a 4)) (manyLongs left (regs / 2) a)
 
 -- an entry from the registers s: two longs are stored, sp being A7 with the handler's status register, and the vector is read
-abbrev pub entryAt : Cpu → Level → ℕ → List Access
+abbrev pub entryAt : Cpu → Level → ℕ → List Wanted
 entryAt s level vector =
     let sp : ℕ = addressOf (setSr (handling level (s .sr)) s .r) 7 in
-    access (pcPlace sp) 4 ∷ access (framePlace sp) 4 ∷ access (vectorPlace (s .vbr) vector) 4 ∷ []
+    wanted (pcPlace sp) 4 ∷ wanted (framePlace sp) 4 ∷ wanted (vectorPlace (s .vbr) vector) 4 ∷ []
 
 -- a return reads two longs
-abbrev pub returnAt : Cpu → List Access
-returnAt s = access (addressOf (s .r) 7) 4 ∷ access (plus (addressOf (s .r) 7) 4) 4 ∷ []
+abbrev pub returnAt : Cpu → List Wanted
+returnAt s = wanted (addressOf (s .r) 7) 4 ∷ wanted (plus (addressOf (s .r) 7) 4) 4 ∷ []
 
 -- s being the registers after the instruction's own changes
-abbrev pub leaves : Cpu → Action → List Access
+abbrev pub leaves : Cpu → Action → List Wanted
 leaves s Nothing = none
-leaves s (Store a z v) = access a (bytes z) ∷ []
+leaves s (Store a z v) = wanted a (bytes z) ∷ []
 leaves s (StoreMany regs a) = manyLongs 16 regs a
 leaves s (LoadMany regs a) = manyLongs 16 regs a
 leaves s (Enter vector pc) = entryAt s Kept vector
@@ -357,8 +364,8 @@ leaves s (Refuse n) = none
 
 -- ---- a step: the opcode word, the reads of its row, and what its instruction leaves to be done
 
-unfoldable pub accesses : Cpu → List ℕ → List Access
+unfoldable pub accesses : Cpu → Memory → List Wanted
 accesses s m =
     let op : ℕ = numberAt m (s .pc) Word in
     let c : Change = instruction (s .r) (s .pc) (s .sr) (s .other) (s .emac) m op in
-    access (s .pc) 2 ∷ (reads (s .r) (s .pc) m op (s .emac .mask) ++ leaves (applied s c) (c .action))
+    wanted (s .pc) 2 ∷ (reads (s .r) (s .pc) m op (s .emac .mask) ++ leaves (applied s c) (c .action))

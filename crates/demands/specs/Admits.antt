@@ -5,7 +5,7 @@
 use Prim.Native.Nat.{ℕ, zero, suc, _+_, _-_, _^_, _≤_, _<_}
 use mathlib.Core.Path.{_≡_, refl, sym, _∙_}
 use mathlib.Core.Bool.{Bool, true, false, cond, _&&_, false≢true}
-use mathlib.Core.List.{List, []}
+use mathlib.Core.List.{List}
 use native.Mathlib.Omega.{arith}
 use lib.Bits.{bitAnd}
 use lib.Dec.{ltb, leb, eqb}
@@ -15,21 +15,24 @@ use borrow.Author.Tests.{lt-ltb}
 use Rattle.manual.specs.declared.Cpu.{Cpu}
 use Rattle.manual.specs.declared.Level.{Level}
 use Rattle.manual.specs.declared.Level.the-variants.{Kept, To}
-use Rattle.manual.specs.declared.Reply.the-variants.{Done, TooLong, NotAdmitted, Stopped, NotInside, OutOfRange, Masked, WrongVersion, WrongLength}
+use Rattle.manual.specs.declared.Size.the-variants.{Long}
+use Rattle.manual.specs.declared.Got.{Got}
+use Rattle.manual.specs.declared.Got.the-variants.{Value, Fault as NoValue}
+use Rattle.manual.specs.declared.Reply.the-variants.{Done, NotAdmitted, Stopped, OutOfRange, Masked, WrongVersion, WrongLength}
 use Rattle.manual.specs.declared.Answer.{Answer}
-use Rattle.manual.specs.declared.Popped.{Popped}
 use Rattle.manual.specs.declared.Action.{Action}
 use Rattle.manual.specs.declared.Action.the-variants.{Nothing, Store, StoreMany, LoadMany, Enter, Return, Status, Stop, PushStatus, Halt, Other, Accumulate, SetAcc, SetExt, SetMacsr, SetMask, CopyAcc, ClearAcc, Refuse}
 use Rattle.manual.specs.declared.Change.{Change}
 use Rattle.manual.specs.declared.Mode.{Mode}
-use Rattle.manual.specs.Word.{bytes, minus, signedAt, inHalf}
-use Rattle.manual.specs.Registers.{addressOf, withAddress, withRegisters, applied}
-use Rattle.manual.specs.Memory.{inside, valueAt, manyInside, loadedMany}
+use Rattle.manual.specs.Word.{minus, signedAt, inHalf}
+use Rattle.manual.specs.Registers.{addressOf, withAddress, applied}
+use Rattle.manual.specs.Memory.{Memory, valueAt, load, storing, accessMany}
 use Rattle.manual.specs.Emac.{modeOf, accOf, inRange, inWhole, unsigned}
 use Rattle.manual.specs.EmacCalls.{accSetCall, setAccPhysCall, setMacsrCall}
-use Rattle.manual.specs.Reply.{Outcome, completed, unchanged, isDone}
-use Rattle.manual.specs.Admitted.{status, admitted, emacAdmitted, tooLong, checked}
-use Rattle.manual.specs.Exceptions.{setSr, entered, left, levelTaken, masked, exception, interrupt, rte, push32, notPopped, pop32, setSrCall}
+use Rattle.manual.specs.Reply.{Outcome, unchanged, isDone}
+use Rattle.manual.specs.Admitted.{status, admitted, emacAdmitted}
+use Rattle.manual.specs.Lent.{Lent, memoryOf, lentOn, firstRefusal, checked}
+use Rattle.manual.specs.Exceptions.{setSr, entered, left, levelTaken, masked, exception, interrupt, rte, push32, notPopped, popped, pop32, setSrCall}
 use Rattle.manual.specs.Block.{fresh, saysAdmitted, stateAt, notRead, readBlock}
 use Rattle.manual.specs.Image.{imageMemory, imageState, imageReply, imageBudget, imageBytes, Image, image, notLoaded, loadImage}
 use Rattle.instructions.specs.Perform.{statusPushed, act, perform}
@@ -39,7 +42,7 @@ use Rattle.word.specs.TestLaws.{by-lt}
 use Rattle.word.specs.SignedLaws.{signed-pos, signed-neg}
 use Rattle.statusregister.specs.MaskLaws.{status-mask}
 use Rattle.statusregister.specs.AdmittedLaws.{admitted-status, admitted-emac, registers-admitted, address-admitted, other-admitted, stopped-admitted, emac-admitted, applied-admitted, set-sr-admitted}
-use Rattle.exceptions.specs.EntryAdmitted.{refusal-admitted, either-outcome, entered-admitted, left-admitted}
+use Rattle.exceptions.specs.EntryAdmitted.{refusal-admitted, taking-admitted, entered-admitted, left-admitted}
 use Rattle.emac.specs.EmacKept as emac
 use Rattle.emaccalls.specs.CallsKept as calls
 
@@ -55,13 +58,13 @@ pub record Means (s : Cpu) : Type 0 where
 
 pub record Admits : Type 0 where
   pub means : (s : Cpu) → s .sr < 2 ^ 16 → admitted s ≡ true → Means s
-  pub by-step : (s : Cpu) (m : List ℕ) → admitted s ≡ true → admitted (step s m .stepped .cpu) ≡ true
-  pub by-run : (budget : ℕ) (s : Cpu) (m : List ℕ) → admitted s ≡ true → admitted (run budget s m .ran .cpu) ≡ true
-  pub by-exception : (s : Cpu) (m : List ℕ) (vector pc : ℕ) (level : Level) → admitted s ≡ true → admitted (exception s m vector pc level .stepped .cpu) ≡ true
-  pub by-interrupt : (s : Cpu) (m : List ℕ) (vector level : ℕ) → admitted s ≡ true → admitted (interrupt s m vector level .stepped .cpu) ≡ true
-  pub by-rte : (s : Cpu) (m : List ℕ) → admitted s ≡ true → admitted (rte s m .stepped .cpu) ≡ true
-  pub by-push32 : (s : Cpu) (m : List ℕ) (v : ℕ) → admitted s ≡ true → admitted (push32 s m v .stepped .cpu) ≡ true
-  pub by-pop32 : (s : Cpu) (m : List ℕ) → admitted s ≡ true → admitted (pop32 s m .cpu) ≡ true
+  pub by-step : (s : Cpu) (l : Lent) → admitted s ≡ true → admitted (step s l .stepped .cpu) ≡ true
+  pub by-run : (budget : ℕ) (s : Cpu) (l : Lent) → admitted s ≡ true → admitted (run budget s l .ran .cpu) ≡ true
+  pub by-exception : (s : Cpu) (l : Lent) (vector pc : ℕ) (level : Level) → admitted s ≡ true → admitted (exception s l vector pc level .stepped .cpu) ≡ true
+  pub by-interrupt : (s : Cpu) (l : Lent) (vector level : ℕ) → admitted s ≡ true → admitted (interrupt s l vector level .stepped .cpu) ≡ true
+  pub by-rte : (s : Cpu) (l : Lent) → admitted s ≡ true → admitted (rte s l .stepped .cpu) ≡ true
+  pub by-push32 : (s : Cpu) (l : Lent) (v : ℕ) → admitted s ≡ true → admitted (push32 s l v .stepped .cpu) ≡ true
+  pub by-pop32 : (s : Cpu) (l : Lent) → admitted s ≡ true → admitted (pop32 s l .cpu) ≡ true
   pub by-set-sr : (s : Cpu) (v : ℕ) → admitted s ≡ true → admitted (setSrCall s v .cpu) ≡ true
   pub by-acc-set : (s : Cpu) (i v : ℕ) → admitted s ≡ true → admitted (accSetCall s i v .cpu) ≡ true
   pub by-set-acc-phys : (s : Cpu) (i acc ext : ℕ) → acc < 2 ^ 32 → ext < 2 ^ 16 → admitted s ≡ true → admitted (setAccPhysCall s i acc ext .cpu) ≡ true
@@ -77,24 +80,26 @@ fresh-admitted : admitted fresh ≡ true
 unfolding fresh admitted emacAdmitted accOf status
 fresh-admitted = refl
 
--- an instruction's action
-module _ (given s : Cpu) (m : List ℕ) (k : admitted given ≡ true) (h : admitted s ≡ true) where
-  tested : (b : Bool) (t : Cpu) (m′ : List ℕ) → admitted t ≡ true → admitted (cond b (completed t 0 m′) (unchanged given NotInside m) .stepped .cpu) ≡ true
-  tested b t m′ a = either-outcome b (completed t 0 m′) (unchanged given NotInside m) a (refusal-admitted given NotInside k)
+either : (b : Bool) (x y : Outcome) → admitted (x .stepped .cpu) ≡ true → admitted (y .stepped .cpu) ≡ true → admitted (cond b x y .stepped .cpu) ≡ true
+either true x y p q = p
+either false x y p q = q
 
+-- an instruction's action
+module _ (given s : Cpu) (m : Memory) (k : admitted given ≡ true) (h : admitted s ≡ true) where
   act-admitted : (a : Action) → admitted (act given s a m .stepped .cpu) ≡ true
   unfolding statusPushed
   act-admitted Nothing = h
-  act-admitted (Store a z v) = tested (inside m a (bytes z)) s _ h
-  act-admitted (StoreMany mask a) = tested (manyInside 16 m mask a) s _ h
-  act-admitted (LoadMany mask a) = tested (manyInside 16 m mask a) (withRegisters (loadedMany 16 m 0 mask a (s .r)) s) m (registers-admitted _ s h)
-  act-admitted (Enter vector pc) = entered-admitted given s Kept vector pc m k h
-  act-admitted Return = left-admitted given s m k h
+  act-admitted (Store a z v) = taking-admitted given m k (storing m a z) _ h
+  act-admitted (StoreMany mask a) = taking-admitted given m k (accessMany 16 m mask a) _ h
+  act-admitted (LoadMany mask a) = taking-admitted given m k (accessMany 16 m mask a) _ (registers-admitted _ s h)
+  act-admitted (Enter vector pc) = entered-admitted given m k s Kept vector pc h
+  act-admitted Return = left-admitted given m k s h
   act-admitted (Status v) = set-sr-admitted v s (admitted-emac s h)
   act-admitted (Stop v) = stopped-admitted true (setSr v s) (set-sr-admitted v s (admitted-emac s h))
   act-admitted (PushStatus v) =
-      let t : Cpu = withAddress 7 (minus (addressOf (s .r) 7) 4) s in
-      tested (inside m (minus (addressOf (s .r) 7) 4) 4) (setSr v t) _ (set-sr-admitted v t (admitted-emac t (address-admitted 7 _ s h)))
+      let sp : ℕ = minus (addressOf (s .r) 7) 4 in
+      let t : Cpu = withAddress 7 sp s in
+      taking-admitted given m k (storing m sp Long) _ (set-sr-admitted v t (admitted-emac t (address-admitted 7 sp s h)))
   act-admitted Halt = stopped-admitted true s h
   act-admitted (Other v) = other-admitted v s h
   act-admitted (Accumulate i scale sub x y) = emac-admitted _ s (emac.accumulate-kept (s .emac) (admitted-emac s h) i scale sub x y) h
@@ -106,86 +111,85 @@ module _ (given s : Cpu) (m : List ℕ) (k : admitted given ≡ true) (h : admit
   act-admitted (ClearAcc i) = emac-admitted _ s (emac.clear-acc-kept (s .emac) (admitted-emac s h) i) h
   act-admitted (Refuse n) = refusal-admitted given n k
 
-perform-admitted : (s : Cpu) (c : Change) (m : List ℕ) → admitted s ≡ true → admitted (perform s c m .stepped .cpu) ≡ true
+perform-admitted : (s : Cpu) (c : Change) (m : Memory) → admitted s ≡ true → admitted (perform s c m .stepped .cpu) ≡ true
 unfolding perform
 perform-admitted s c m h = act-admitted s (applied s c) m h (applied-admitted s c h) (c .action)
 
-module _ (s : Cpu) (m : List ℕ) (h : admitted s ≡ true) where
-  checked-admitted : (o : Outcome) → admitted (o .stepped .cpu) ≡ true → admitted (checked s m o .stepped .cpu) ≡ true
-  checked-admitted o a =
-      either-outcome (tooLong m) (unchanged s TooLong m) (cond (admitted s) o (unchanged s NotAdmitted m)) (refusal-admitted s TooLong h)
-      (either-outcome (admitted s) o (unchanged s NotAdmitted m) a (refusal-admitted s NotAdmitted h))
+module _ (s : Cpu) (l : Lent) (h : admitted s ≡ true) where
+  abbrev m : Memory
+  m = memoryOf l
 
-  step-admitted : admitted (step s m .stepped .cpu) ≡ true
+  checked-admitted : (o : Outcome) → admitted (o .stepped .cpu) ≡ true → admitted (checked s l o .stepped .cpu) ≡ true
+  checked-admitted o a = either (isDone (firstRefusal s l)) o (unchanged s (firstRefusal s l) m) a (refusal-admitted s (firstRefusal s l) h)
+
+  step-admitted : admitted (step s l .stepped .cpu) ≡ true
   unfolding step
   step-admitted =
       checked-admitted _
-      (either-outcome (s .stopped) (unchanged s Stopped m) _ (refusal-admitted s Stopped h)
+      (either (s .stopped) (unchanged s Stopped m) _ (refusal-admitted s Stopped h)
       (perform-admitted s (execute (s .r) (s .pc) (s .sr) (s .other) (s .emac) m) m h))
 
-  exception-admitted : (vector pc : ℕ) (level : Level) → admitted (exception s m vector pc level .stepped .cpu) ≡ true
+  exception-admitted : (vector pc : ℕ) (level : Level) → admitted (exception s l vector pc level .stepped .cpu) ≡ true
   unfolding exception
   exception-admitted vector pc level =
       checked-admitted _
-      (either-outcome (levelTaken level) (entered s s level vector pc m) (unchanged s OutOfRange m) (entered-admitted s s level vector pc m h h) (refusal-admitted s OutOfRange h))
+      (either (levelTaken level) (entered s s level vector pc m) (unchanged s OutOfRange m) (entered-admitted s m h s level vector pc h) (refusal-admitted s OutOfRange h))
 
-  interrupt-admitted : (vector level : ℕ) → admitted (interrupt s m vector level .stepped .cpu) ≡ true
+  interrupt-admitted : (vector level : ℕ) → admitted (interrupt s l vector level .stepped .cpu) ≡ true
   unfolding interrupt
   interrupt-admitted vector level =
       let i : Outcome = entered s s (To level) vector (s .pc) m in
       checked-admitted _
-      (either-outcome (ltb level 8) (cond (masked (s .sr) level) (unchanged s Masked m) i) (unchanged s OutOfRange m)
-      (either-outcome (masked (s .sr) level) (unchanged s Masked m) i (refusal-admitted s Masked h) (entered-admitted s s (To level) vector (s .pc) m h h))
+      (either (ltb level 8) (cond (masked (s .sr) level) (unchanged s Masked m) i) (unchanged s OutOfRange m)
+      (either (masked (s .sr) level) (unchanged s Masked m) i (refusal-admitted s Masked h) (entered-admitted s m h s (To level) vector (s .pc) h))
       (refusal-admitted s OutOfRange h))
 
-  rte-admitted : admitted (rte s m .stepped .cpu) ≡ true
+  rte-admitted : admitted (rte s l .stepped .cpu) ≡ true
   unfolding rte
-  rte-admitted = checked-admitted _ (left-admitted s s m h h)
+  rte-admitted = checked-admitted _ (left-admitted s m h s h)
 
-  push-admitted : (v : ℕ) → admitted (push32 s m v .stepped .cpu) ≡ true
+  push-admitted : (v : ℕ) → admitted (push32 s l v .stepped .cpu) ≡ true
   unfolding push32
   push-admitted v =
       let sp : ℕ = minus (addressOf (s .r) 7) 4 in
-      checked-admitted _ (tested s s m h h (inside m sp 4) (withAddress 7 sp s) _ (address-admitted 7 sp s h))
+      checked-admitted _ (taking-admitted s m h (storing m sp Long) _ (address-admitted 7 sp s h))
 
-  pop-admitted : admitted (pop32 s m .cpu) ≡ true
+  pop-admitted : admitted (pop32 s l .cpu) ≡ true
   unfolding pop32
-  pop-admitted = by (tooLong m) (admitted s) (inside m (addressOf (s .r) 7) 4) _ (address-admitted 7 _ s h)
+  pop-admitted = by (isDone (firstRefusal s l)) (load m (addressOf (s .r) 7) Long)
     where
-      by : (a b c : Bool) (p : Popped) → admitted (p .cpu) ≡ true
-          → admitted (cond a (notPopped s TooLong) (cond b (cond c p (notPopped s NotInside)) (notPopped s NotAdmitted)) .cpu) ≡ true
-      by true b c p e = h
-      by false true true p e = e
-      by false true false p e = h
-      by false false c p e = h
+      by : (b : Bool) (x : Got) → admitted (cond b (popped s (addressOf (s .r) 7) x) (notPopped s (firstRefusal s l)) .cpu) ≡ true
+      by true (Value v) = address-admitted 7 _ s h
+      by true (NoValue x) = h
+      by false x = h
 
-  set-sr-call-admitted : (v : ℕ) → admitted (setSrCall s v .cpu) ≡ true
-  unfolding setSrCall
-  set-sr-call-admitted v = by (admitted s)
-    where
-      by : (b : Bool) → admitted (cond {A = Answer} b (record { reply = Done; cpu = setSr v s }) (record { reply = NotAdmitted; cpu = s }) .cpu) ≡ true
-      by true = set-sr-admitted v s (admitted-emac s h)
-      by false = h
+set-sr-call-admitted : (s : Cpu) (v : ℕ) → admitted s ≡ true → admitted (setSrCall s v .cpu) ≡ true
+unfolding setSrCall
+set-sr-call-admitted s v h = by (admitted s)
+  where
+    by : (b : Bool) → admitted (cond {A = Answer} b (record { reply = Done; cpu = setSr v s }) (record { reply = NotAdmitted; cpu = s }) .cpu) ≡ true
+    by true = set-sr-admitted v s (admitted-emac s h)
+    by false = h
 
-steps-admitted : (budget : ℕ) (s : Cpu) (m : List ℕ) → admitted s ≡ true → admitted (steps budget s m .ran .cpu) ≡ true
+steps-admitted : (budget : ℕ) (s : Cpu) (l : Lent) → admitted s ≡ true → admitted (steps budget s l .ran .cpu) ≡ true
 unfolding steps
-steps-admitted zero s m h = h
-steps-admitted (suc left) s m h =
-    by (isDone (step s m .stepped .reply)) (steps left (step s m .stepped .cpu) (step s m .memory)) (steps-admitted left (step s m .stepped .cpu) (step s m .memory) (step-admitted s m h))
+steps-admitted zero s l h = h
+steps-admitted (suc left) s l h =
+    by (isDone (step s l .stepped .reply)) (steps left (step s l .stepped .cpu) (lentOn l (step s l .storage)))
+    (steps-admitted left (step s l .stepped .cpu) (lentOn l (step s l .storage)) (step-admitted s l h))
   where
     by : (b : Bool) (r : RunOutcome) → admitted (r .ran .cpu) ≡ true
-        → admitted (cond b (afterOne r) (ended (step s m .stepped .reply) 0 (step s m .stepped .cpu) (step s m .memory)) .ran .cpu) ≡ true
+        → admitted (cond b (afterOne r) (ended (step s l .stepped .reply) 0 (step s l .stepped .cpu) (step s l .storage)) .ran .cpu) ≡ true
     by true r a = a
-    by false r a = step-admitted s m h
+    by false r a = step-admitted s l h
 
-run-admitted : (budget : ℕ) (s : Cpu) (m : List ℕ) → admitted s ≡ true → admitted (run budget s m .ran .cpu) ≡ true
+run-admitted : (budget : ℕ) (s : Cpu) (l : Lent) → admitted s ≡ true → admitted (run budget s l .ran .cpu) ≡ true
 unfolding run
-run-admitted budget s m h = by (tooLong m) (admitted s)
+run-admitted budget s l h = by (isDone (firstRefusal s l))
   where
-    by : (a b : Bool) → admitted (cond a (ended TooLong 0 s m) (cond b (steps budget s m) (ended NotAdmitted 0 s m)) .ran .cpu) ≡ true
-    by true b = h
-    by false true = steps-admitted budget s m h
-    by false false = h
+    by : (b : Bool) → admitted (cond b (steps budget s l) (ended (firstRefusal s l) 0 s (l .storage)) .ran .cpu) ≡ true
+    by true = steps-admitted budget s l h
+    by false = h
 
 -- a block that is read says an admitted state
 first-of : (a b : Bool) → (a && b) ≡ true → a ≡ true
@@ -250,12 +254,12 @@ admits = record {
   means = means;
   by-step = step-admitted;
   by-run = run-admitted;
-  by-exception = λ s m vector pc level h. exception-admitted s m h vector pc level;
-  by-interrupt = λ s m vector level h. interrupt-admitted s m h vector level;
+  by-exception = λ s l vector pc level h. exception-admitted s l h vector pc level;
+  by-interrupt = λ s l vector level h. interrupt-admitted s l h vector level;
   by-rte = rte-admitted;
-  by-push32 = λ s m v h. push-admitted s m h v;
+  by-push32 = λ s l v h. push-admitted s l h v;
   by-pop32 = pop-admitted;
-  by-set-sr = λ s v h. set-sr-call-admitted s [] h v;
+  by-set-sr = set-sr-call-admitted;
   by-acc-set = λ s i v h. calls.acc-set-kept s h i v;
   by-set-acc-phys = λ s i acc ext a b h. calls.set-acc-phys-kept s h i acc ext a b;
   by-set-macsr = λ s v h. calls.set-macsr-call-kept s h v;

@@ -13,7 +13,9 @@ use Rattle.manual.specs.declared.Size.the-variants.{Byte, Word, Long}
 use Rattle.manual.specs.declared.Emac.{Emac}
 use Rattle.manual.specs.declared.EmacPart.{EmacPart}
 use Rattle.manual.specs.declared.EmacPart.the-variants.{Acc, Ext, Macsr, Mask}
-use Rattle.manual.specs.declared.Fault.the-variants.{Outside as Out}
+use Rattle.manual.specs.declared.Access.{Access}
+use Rattle.manual.specs.declared.Access.the-variants.{Here, Not}
+use Rattle.manual.specs.declared.Stored.the-variants.{Done as Taken}
 use Rattle.manual.specs.declared.Got.the-variants.{Value, Fault as NoValue}
 use Rattle.manual.specs.declared.Reached.{Reached}
 use Rattle.manual.specs.declared.Reached.the-variants.{At, NoAddress}
@@ -26,7 +28,7 @@ use Rattle.manual.specs.declared.Action.the-variants.{Nothing, ClearAcc}
 use Rattle.manual.specs.declared.Change.{Change}
 use Rattle.manual.specs.Word.{plus, sizeOf, signExtended}
 use Rattle.manual.specs.Registers.{dataOf, addressOf}
-use Rattle.manual.specs.Memory.{inside, numberAt, load}
+use Rattle.manual.specs.Memory.{Memory, storageOf, access, firstFault, found, load, numberAt}
 use Rattle.manual.specs.Address.{operand, extension, source, locate, value, control}
 use Rattle.manual.specs.Differences.{anySize}
 use Rattle.manual.specs.Emac.{has, readExt}
@@ -46,8 +48,8 @@ use Rattle.instructions.specs.LineC as lc
 use Rattle.instructions.specs.LineE as le
 use Rattle.instructions.specs.LineF as lf
 use Rattle.demands.specs.Accesses as acc
-use Rattle.demands.specs.Accesses.{Access, none, wordAt, longAt, words, named, extensionOf, operandAt, controlAt}
-use Rattle.demands.specs.PartLaws.{refusing, missed, Made, refused-4, illegal-made, privilege-made, cond-made, either-made, load-made, missing, unreached, reading-only, locate-made, put-made, put-found, locating-made, source-made, source-only, target-made, of-data, missing-immediate, control-missed, reaching-made, end, row, out, listed, all-made}
+use Rattle.demands.specs.Accesses.{Wanted, none, wordAt, longAt, words, named, extensionOf, operandAt, controlAt}
+use Rattle.demands.specs.PartLaws.{refusing, accessAll, Made, refused-number, illegal-made, privilege-made, cond-made, either-made, load-made, missing, missing-found, unreached, reading-only, locate-made, put-made, put-found, locating-made, source-made, source-only, target-made, of-data, missing-immediate, control-missed, reaching-made, end, row, out, listed, all-made}
 
 -- the rows MOVEC_READ, MOVEC_WRITE and MAC, which have words that are not carried, by their places in their lines
 abbrev pub movecRead : ℕ
@@ -59,9 +61,9 @@ movecWrite = firstRow 4 + 5
 abbrev pub macRow : ℕ
 macRow = firstRow 0xA + 11
 
-module _ (g : List ℕ) (at sr : ℕ) (m : List ℕ) (op : ℕ) where
+module _ (g : List ℕ) (at sr : ℕ) (m : Memory) (op : ℕ) where
   -- the operand that the word names, right after it
-  abbrev from : Size → List Access
+  abbrev from : Size → List Wanted
   from z = acc.source g at m op z
 
   -- the word after the next
@@ -182,7 +184,7 @@ module _ (g : List ℕ) (at sr : ℕ) (m : List ℕ) (op : ℕ) where
   unfolding jump done
   jump-made next = refl
 
-  abbrev address-words : List Access
+  abbrev address-words : List Wanted
   address-words = controlAt g m (plus at 2) op
 
   to-address-made : (f : ℕ → Change) → ((a : ℕ) → Made m [] (f a)) → Made m address-words (reaching sr at (control g m (plus at 2) (named op)) f)
@@ -269,7 +271,7 @@ module _ (g : List ℕ) (at sr : ℕ) (m : List ℕ) (op : ℕ) where
       (in-mode-2 _ _ (many-made b _ _)
       (cond-made m (eqb (op / 8 % 8) 5) (wordAt (plus at 4)) none _ _ (load-made m (plus at 4) Word [] _ (many-made b _ _)) (illegal-made m at sr))))
     where
-      displaced : List Access
+      displaced : List Wanted
       displaced = cond (eqb (op / 8 % 8) 5) (wordAt (plus at 4)) none
 
       in-mode-2 : (c d : Change) → Made m [] c → Made m displaced d → Made m displaced (cond (eqb (op / 8 % 8) 2) c d)
@@ -403,26 +405,22 @@ module _ (g : List ℕ) (at sr : ℕ) (m : List ℕ) (op : ℕ) where
 
   -- ---- lines 6 and 7
 
-  abbrev branch-words : List Access
+  abbrev branch-words : List Wanted
   branch-words = words (plus at 2) (l6.displacementBytes (op % 256))
 
-  missing-displacement : (pc low : ℕ) → missing (l6.displacement m pc low) ≡ missed m (words pc (l6.displacementBytes low))
+  missing-displacement : (pc low : ℕ) → missing (l6.displacement m pc low) ≡ accessAll m (words pc (l6.displacementBytes low))
   unfolding l6.displacement l6.displacementBytes load
   missing-displacement pc low = by (eqb low 0) (eqb low 255)
     where
-      read : (b : Bool) (v : ℕ) → missing (cond b (Value v) (NoValue Out)) ≡ cond b false true
-      read true v = refl
-      read false v = refl
-
-      extended : (b : Bool) (v : ℕ) → missing (l6.extended (cond b (Value v) (NoValue Out))) ≡ cond b false true
-      extended true v = refl
-      extended false v = refl
+      extended : (x : Access) → missing (l6.extended (found (storageOf m) Word x)) ≡ firstFault x Taken
+      extended (Here at) = refl
+      extended (Not x) = refl
 
       by : (a b : Bool)
-          → missing (cond a (l6.extended (cond (inside m pc 2) (Value (numberAt m pc Word)) (NoValue Out))) (cond b (cond (inside m pc 4) (Value (numberAt m pc Long)) (NoValue Out)) (Value (signExtended Byte low))))
-          ≡ missed m (words pc (cond a 2 (cond b 4 0)))
-      by true b = extended (inside m pc 2) _
-      by false true = read (inside m pc 4) _
+          → missing (cond a (l6.extended (found (storageOf m) Word (access m pc 2))) (cond b (found (storageOf m) Long (access m pc 4)) (Value (signExtended Byte low))))
+          ≡ accessAll m (words pc (cond a 2 (cond b 4 0)))
+      by true b = extended (access m pc 2)
+      by false true = missing-found m Long (access m pc 4)
       by false false = refl
 
   branch-made : (f : ℕ → Change) → ((d : ℕ) → Made m [] (f d)) → Made m branch-words (reading (l6.displacement m (plus at 2) (op % 256)) f)
@@ -456,7 +454,7 @@ module _ (g : List ℕ) (at sr : ℕ) (m : List ℕ) (op : ℕ) where
   pub line7-made : (n : ℕ) → Made m (acc.reads7 g at m op n) (l7.line7 n g at sr m op)
   unfolding acc.reads7 l7.line7 l7.moveQuick done
   line7-made n =
-      let l : List Access = from (sizeOf (op / 64 % 2)) in
+      let l : List Wanted = from (sizeOf (op / 64 % 2)) in
       all-made (row l (l7.moveSigned g at sr m op) move-signed (row l (l7.moveZero g at sr m op) move-zero end)) (placeIn (firstRow 7) n) none (l7.moveQuick at sr op) refl
 
   -- ---- lines B, C, E and F
@@ -513,9 +511,9 @@ module _ (g : List ℕ) (at sr : ℕ) (m : List ℕ) (op : ℕ) where
       by (suc zero) = refl
       by (suc (suc i)) = illegal-made m at sr
 
-  debug-ends : (pc : ℕ) (l : List Access) (got : Reached) (size skipped : ℕ) → unreached got ≡ missed m l → Made m l (lf.debugEnds sr pc got size skipped)
+  debug-ends : (pc : ℕ) (l : List Wanted) (got : Reached) (size skipped : ℕ) → unreached got ≡ accessAll m l → Made m l (lf.debugEnds sr pc got size skipped)
   debug-ends pc l (At (Value a)) size skipped e = rw (← e) (jump-made _)
-  debug-ends pc l (At (NoValue x)) size skipped e = rw (← e) (refused-4 x)
+  debug-ends pc l (At (NoValue x)) size skipped e = rw (← e) (refused-number x)
   debug-ends pc l NoAddress size skipped e = rw (← e) (jump-made _)
 
   write-debug : Made m address-words (lf.writeDebug g at sr m op)

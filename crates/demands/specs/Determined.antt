@@ -8,6 +8,7 @@ use Rattle.manual.specs.declared.Cpu.{Cpu}
 use Rattle.manual.specs.declared.Emac.{Emac}
 use Rattle.manual.specs.declared.Level.{Level}
 use Rattle.manual.specs.declared.Reply.{Reply}
+use Rattle.manual.specs.Lent.{Lent}
 use Rattle.manual.specs.Exceptions.{exception, interrupt, rte, push32, pop32, setSrCall, ipl, supervisorCall}
 use Rattle.manual.specs.EmacCalls.{accGetCall, accSetCall, accPhysCall, setAccPhysCall, setMacsrCall}
 use Rattle.manual.specs.Block.{fresh, readBlock, storeBlock}
@@ -15,8 +16,6 @@ use Rattle.manual.specs.Image.{loadImage, runText, answerLine, textOf}
 use Rattle.instructions.specs.Step.{step}
 use Rattle.instructions.specs.Run.{run}
 use Rattle.emacunit.specs.UnitCalls as unit
-use Rattle.blockcalls.specs.Calls.{rteOn, exceptionOn, interruptOn}
-use Rattle.harness.specs.Calls.{stepOn, runOn}
 
 -- what a promise allows is what is equal to x; two such outcomes are equal
 abbrev pub Determined : {A : Type 0} → A → Type 0
@@ -25,26 +24,26 @@ Determined {A} x = (one two : A) → one ≡ x → two ≡ x → one ≡ two
 determined : {A : Type 0} (x : A) → Determined x
 determined x one two p q = p ∙ sym q
 
-pub step-determined : (s : Cpu) (m : List ℕ) → Determined (step s m)
-step-determined s m = determined (step s m)
+pub step-determined : (s : Cpu) (l : Lent) → Determined (step s l)
+step-determined s l = determined (step s l)
 
-pub run-determined : (budget : ℕ) (s : Cpu) (m : List ℕ) → Determined (run budget s m)
-run-determined budget s m = determined (run budget s m)
+pub run-determined : (budget : ℕ) (s : Cpu) (l : Lent) → Determined (run budget s l)
+run-determined budget s l = determined (run budget s l)
 
-pub exception-determined : (s : Cpu) (m : List ℕ) (vector pc : ℕ) (level : Level) → Determined (exception s m vector pc level)
-exception-determined s m vector pc level = determined (exception s m vector pc level)
+pub exception-determined : (s : Cpu) (l : Lent) (vector pc : ℕ) (level : Level) → Determined (exception s l vector pc level)
+exception-determined s l vector pc level = determined (exception s l vector pc level)
 
-pub interrupt-determined : (s : Cpu) (m : List ℕ) (vector level : ℕ) → Determined (interrupt s m vector level)
-interrupt-determined s m vector level = determined (interrupt s m vector level)
+pub interrupt-determined : (s : Cpu) (l : Lent) (vector level : ℕ) → Determined (interrupt s l vector level)
+interrupt-determined s l vector level = determined (interrupt s l vector level)
 
-pub rte-determined : (s : Cpu) (m : List ℕ) → Determined (rte s m)
-rte-determined s m = determined (rte s m)
+pub rte-determined : (s : Cpu) (l : Lent) → Determined (rte s l)
+rte-determined s l = determined (rte s l)
 
-pub push-determined : (s : Cpu) (m : List ℕ) (v : ℕ) → Determined (push32 s m v)
-push-determined s m v = determined (push32 s m v)
+pub push-determined : (s : Cpu) (l : Lent) (v : ℕ) → Determined (push32 s l v)
+push-determined s l v = determined (push32 s l v)
 
-pub pop-determined : (s : Cpu) (m : List ℕ) → Determined (pop32 s m)
-pop-determined s m = determined (pop32 s m)
+pub pop-determined : (s : Cpu) (l : Lent) → Determined (pop32 s l)
+pop-determined s l = determined (pop32 s l)
 
 pub set-sr-determined : (s : Cpu) (v : ℕ) → Determined (setSrCall s v)
 set-sr-determined s v = determined (setSrCall s v)
@@ -100,18 +99,3 @@ run-text-determined n count s = determined (textOf (runText n count s))
 
 pub answer-text-determined : (n : Reply) → Determined (textOf (answerLine n))
 answer-text-determined n = determined (textOf (answerLine n))
-
-pub host-step-determined : (b m : List ℕ) → Determined (stepOn b m)
-host-step-determined b m = determined (stepOn b m)
-
-pub host-run-determined : (b m : List ℕ) (budget : ℕ) → Determined (runOn b m budget)
-host-run-determined b m budget = determined (runOn b m budget)
-
-pub host-rte-determined : (b m : List ℕ) → Determined (rteOn b m)
-host-rte-determined b m = determined (rteOn b m)
-
-pub host-exception-determined : (b m : List ℕ) (vector pc : ℕ) (level : Level) → Determined (exceptionOn b m vector pc level)
-host-exception-determined b m vector pc level = determined (exceptionOn b m vector pc level)
-
-pub host-interrupt-determined : (b m : List ℕ) (vector level : ℕ) → Determined (interruptOn b m vector level)
-host-interrupt-determined b m vector level = determined (interruptOn b m vector level)

@@ -1,29 +1,31 @@
 -- What an entry leaves, and what a return then finds: the parts of `entered` and `left`, in plain variables.
 -- Assumes nothing.
 use Prim.Native.Nat.{ℕ, _+_, _*_, _/_, _%_, _^_, _≤_, _<_}
-use mathlib.Core.Path.{_≡_, refl, ap, _∙_}
-use mathlib.Core.Bool.{Bool, true, false, cond, not, _&&_, Bool·beq}
-use mathlib.Core.List.{List}
+use mathlib.Core.Path.{_≡_, refl, sym, ap, _∙_}
+use mathlib.Core.Bool.{Bool, true, false, cond, not, _&&_, Bool·beq, false≢true}
 use mathlib.Core.Logic.{_⊎_, inl, inr}
 use native.Mathlib.Omega.{arith}
 use lib.ListN.{length, getD, length-set}
 use lib.Seq.{getD-set-same}
-use borrow.Author.Tests.{eq-eqb, le-ltb, lt-ltb, leb-true, le-leb}
+use borrow.Author.Tests.{eq-eqb, le-ltb, lt-ltb}
 use Rattle.manual.specs.declared.Cpu.{Cpu}
 use Rattle.manual.specs.declared.Level.{Level}
 use Rattle.manual.specs.declared.Level.the-variants.{Kept, To}
 use Rattle.manual.specs.declared.Reply.{Reply}
-use Rattle.manual.specs.declared.Reply.the-variants.{Done, TooLong, NotAdmitted, NotInside, OutOfRange, Masked}
+use Rattle.manual.specs.declared.Reply.the-variants.{Done, OutOfRange, Masked}
 use Rattle.manual.specs.declared.Size.the-variants.{Long}
 use Rattle.manual.specs.Word.{plus, minus}
 use Rattle.manual.specs.Registers.{addressOf, withAddress, withSr, withOther}
-use Rattle.manual.specs.Memory.{inside, valueAt, storeAt, numberAt}
-use Rattle.manual.specs.Reply.{Outcome, completed, unchanged, refusal}
-use Rattle.manual.specs.Admitted.{status, admitted, tooLong, checked}
+use Rattle.manual.specs.Memory.{Storage, Memory, storageOf, valueAt, storeAt, access}
+use Rattle.manual.specs.Reply.{Outcome, isDone, completed, unchanged, refusal, accessing}
+use Rattle.manual.specs.Admitted.{status}
+use Rattle.manual.specs.Lent.{Lent, memoryOf, firstRefusal, checked}
 use Rattle.manual.specs.Differences.{frameBytes, vectorPlace}
 use Rattle.manual.specs.Exceptions.{supervisor, twoStacks, setSr, handling, frameLong, pcPlace, framePlace, framed, handlerState, entered, returned, left}
 use Rattle.word.specs.TestLaws.{by-lt}
 use Rattle.memory.specs.MemoryLaws.{length-store, value-same, read-other, read-same}
+use Rattle.demands.specs.Exact.{Ready}
+use Rattle.demands.specs.AccessLaws.{here-is, load-at, Found, accessing-done}
 
 -- ---- the frame's lower long
 
@@ -160,7 +162,7 @@ swaps-back false s = refl
 
 -- ---- the two longs, read back from equal frame bytes
 
-module _ (m m₂ : List ℕ) (low high pc w : ℕ)
+module _ (m m₂ : Storage) (low high pc w : ℕ)
     (la : (j : ℕ) → j < 4 → plus low j ≡ low + j) (ha : (j : ℕ) → j < 4 → plus low (4 + j) ≡ high + j)
     (far : (high + 4 ≤ low) ⊎ (low + 4 ≤ high)) (hi : high + 4 ≤ length m) (lo : low + 4 ≤ length m)
     (frame : (j : ℕ) → j < 8 → getD m₂ (plus low j) 0 ≡ getD (storeAt (storeAt m high 4 pc) low 4 w) (plus low j) 0) where
@@ -177,69 +179,59 @@ module _ (m m₂ : List ℕ) (low high pc w : ℕ)
 
 -- ---- an entry that was done
 
-never : (n : Reply) → NotInside ≡ Done → ⊥
-never n e = let z : _≡_ {A = ℕ} 0 1 = cc in omega arith
+-- three accesses of a long that were done are inside, and lie at their addresses
+three : (given : Cpu) (m : Memory) (a b c : ℕ) (f : ℕ → ℕ → ℕ → Outcome)
+    → let o : Outcome = accessing given m (access m a 4) λ x. accessing given m (access m b 4) λ y. accessing given m (access m c 4) λ z. f x y z in
+    o .stepped .reply ≡ Done → ((a + 4 ≤ length (storageOf m)) × (b + 4 ≤ length (storageOf m))) × (o ≡ f a b c)
+three given m a b c f e =
+    let one : Found (access m a 4) _ _ = accessing-done given m (access m a 4) _ e in
+    let two : Found (access m b 4) _ _ = accessing-done given m (access m b 4) _ (rw (one .same) at e) in
+    let last : Found (access m c 4) _ _ = accessing-done given m (access m c 4) _ (rw (one .same, two .same) at e) in
+    let ha : (one .place ≡ a) × (a + 4 ≤ length (storageOf m)) = here-is m a 4 (one .place) (one .here) in
+    let hb : (two .place ≡ b) × (b + 4 ≤ length (storageOf m)) = here-is m b 4 (two .place) (two .here) in
+    let hc : last .place ≡ c = here-is m c 4 (last .place) (last .here) .0 in
+    let same : f (one .place) (two .place) (last .place) ≡ f a b c = cc (ha .0, hb .0, hc) in
+    ((ha .1, hb .1), one .same ∙ two .same ∙ last .same ∙ same)
 
--- three tests, of which a done outcome passed all
-three : (a b c : Bool) (given : Cpu) (m : List ℕ) (all : Outcome)
-    → cond a (cond b (cond c all (unchanged given NotInside m)) (unchanged given NotInside m)) (unchanged given NotInside m) .stepped .reply ≡ Done
-    → ((a ≡ true) × (b ≡ true)) × (c ≡ true)
-unfolding refusal
-three true true true given m all e = ((refl, refl), refl)
-three true true false given m all e = absurd (never Done e)
-three true false c given m all e = absurd (never Done e)
-three false b c given m all e = absurd (never Done e)
-
--- the handler's address, as the vector has it once the frame is stored
-abbrev pub handlerAt : Cpu → List ℕ → ℕ → ℕ → ℕ → ℕ
-handlerAt s m vector pc sp = numberAt (framed m sp vector (s .sr) pc) (vectorPlace (s .vbr) vector) Long
+-- storage with the frame of an entry with A7 at sp
+abbrev pub frameOn : Storage → ℕ → ℕ → ℕ → ℕ → Storage
+frameOn b sp vector sr pc = framed b (pcPlace sp) (framePlace sp) pc (frameLong sp vector sr)
 
 -- what it did, t being the state with the handler's status register, and sp its A7
-pub record Went (s : Cpu) (m : List ℕ) (vector pc : ℕ) (t : Cpu) (sp : ℕ) (o : Outcome) : Type 0 where
-  pub hi : pcPlace sp + 4 ≤ length m
-  pub lo : framePlace sp + 4 ≤ length m
-  pub state : o .stepped .cpu ≡ handlerState t (framePlace sp) (handlerAt s m vector pc sp)
-  pub memory : o .memory ≡ framed m sp vector (s .sr) pc
+pub record Went (s : Cpu) (m : Memory) (vector pc : ℕ) (t : Cpu) (sp : ℕ) (o : Outcome) : Type 0 where
+  pub hi : pcPlace sp + 4 ≤ length (storageOf m)
+  pub lo : framePlace sp + 4 ≤ length (storageOf m)
+  pub state : o .stepped .cpu ≡ handlerState t (framePlace sp) (valueAt (o .storage) (vectorPlace (s .vbr) vector) 4)
+  pub storage : o .storage ≡ frameOn (storageOf m) sp vector (s .sr) pc
 
-pub went : (given s : Cpu) (level : Level) (vector pc : ℕ) (m : List ℕ) → entered given s level vector pc m .stepped .reply ≡ Done
+pub went : (given s : Cpu) (level : Level) (vector pc : ℕ) (m : Memory) → entered given s level vector pc m .stepped .reply ≡ Done
     → let t : Cpu = setSr (handling level (s .sr)) s in
     Went s m vector pc t (addressOf (t .r) 7) (entered given s level vector pc m)
 unfolding entered
 went given s level vector pc m e =
     let t : Cpu = setSr (handling level (s .sr)) s in
     let sp : ℕ = addressOf (t .r) 7 in
-    let m′ : List ℕ = framed m sp vector (s .sr) pc in
+    let b : ℕ → ℕ → Storage = λ high low. framed (storageOf m) high low pc (frameLong sp vector (s .sr)) in
+    let all : ℕ → ℕ → ℕ → Outcome = λ high low table. completed (handlerState t (framePlace sp) (valueAt (b high low) table 4)) vector (b high low) in
     let place : ℕ = vectorPlace (s .vbr) vector in
-    let all : Outcome = completed (handlerState t (framePlace sp) (numberAt m′ place Long)) vector m′ in
-    let h : ((inside m (pcPlace sp) 4 ≡ true) × (inside m (framePlace sp) 4 ≡ true)) × (inside m place 4 ≡ true) =
-    three (inside m (pcPlace sp) 4) (inside m (framePlace sp) 4) (inside m place 4) given m all e
+    let h : ((pcPlace sp + 4 ≤ length (storageOf m)) × (framePlace sp + 4 ≤ length (storageOf m))) × (entered given s level vector pc m ≡ all (pcPlace sp) (framePlace sp) place) =
+    three given m (pcPlace sp) (framePlace sp) place all e
     in
-    record {
-      hi = leb-true _ _ (h .0 .0);
-      lo = leb-true _ _ (h .0 .1);
-      state = rw (h .0 .0, h .0 .1, h .1);
-      memory = rw (h .0 .0, h .0 .1, h .1);
-    }
+    record { hi = h .0 .0; lo = h .0 .1; state = rw (h .1); storage = rw (h .1) }
 
 -- ---- a return whose two longs are known
 
-pub left-in : (given s : Cpu) (m : List ℕ) (low high w pc : ℕ) → addressOf (s .r) 7 ≡ low → plus low 4 ≡ high
-    → low + 4 ≤ length m → high + 4 ≤ length m → valueAt m low 4 ≡ w → valueAt m high 4 ≡ pc
-    → left given s m ≡ completed (returned s low w pc) 0 m
+pub left-in : (given s : Cpu) (m : Memory) (low high w pc : ℕ) → addressOf (s .r) 7 ≡ low → plus low 4 ≡ high
+    → low + 4 ≤ length (storageOf m) → high + 4 ≤ length (storageOf m) → valueAt (storageOf m) low 4 ≡ w → valueAt (storageOf m) high 4 ≡ pc
+    → left given s m ≡ completed (returned s low w pc) 0 (storageOf m)
 unfolding left
-left-in given s m low high w pc es eh lo hi ew ep = simp (es, eh, le-leb _ _ lo, le-leb _ _ hi, ew, ep)
+left-in given s m low high w pc es eh lo hi ew ep = rw (es, eh, load-at m low Long lo, load-at m high Long hi, ew, ep)
 
 -- ---- a call that was done passed its tests
 
-pub not-done : (n : Reply) → (n ≡ Done → ⊥) → (given : Cpu) (m : List ℕ) → unchanged given n m .stepped .reply ≡ Done → ⊥
+pub not-done : (n : Reply) → (n ≡ Done → ⊥) → (given : Cpu) (m : Memory) → unchanged given n m .stepped .reply ≡ Done → ⊥
 unfolding refusal
 not-done n h given m e = h e
-
-too-long-not : TooLong ≡ Done → ⊥
-too-long-not e = let z : _≡_ {A = ℕ} 0 1 = cc in omega arith
-
-not-admitted-not : NotAdmitted ≡ Done → ⊥
-not-admitted-not e = let z : _≡_ {A = ℕ} 0 1 = cc in omega arith
 
 pub out-of-range-not : OutOfRange ≡ Done → ⊥
 out-of-range-not e = let z : _≡_ {A = ℕ} 0 1 = cc in omega arith
@@ -247,34 +239,34 @@ out-of-range-not e = let z : _≡_ {A = ℕ} 0 1 = cc in omega arith
 pub masked-not : Masked ≡ Done → ⊥
 masked-not e = let z : _≡_ {A = ℕ} 0 1 = cc in omega arith
 
-pub record Open (s : Cpu) (m : List ℕ) (o : Outcome) (c : Outcome) : Type 0 where
-  pub short : tooLong m ≡ false
-  pub taken : admitted s ≡ true
+pub record Open (s : Cpu) (l : Lent) (o : Outcome) (c : Outcome) : Type 0 where
+  pub ready : Ready s l
   pub same : c ≡ o
 
-open-by : (b a : Bool) (s : Cpu) (m : List ℕ) (o : Outcome)
-    → cond b (unchanged s TooLong m) (cond a o (unchanged s NotAdmitted m)) .stepped .reply ≡ Done
-    → ((b ≡ false) × (a ≡ true)) × (cond b (unchanged s TooLong m) (cond a o (unchanged s NotAdmitted m)) ≡ o)
-open-by true a s m o e = absurd (not-done TooLong too-long-not s m e)
-open-by false true s m o e = ((refl, refl), refl)
-open-by false false s m o e = absurd (not-done NotAdmitted not-admitted-not s m e)
+-- n is the reply of the first test that fails
+open-by : (b : Bool) (n : Reply) (s : Cpu) (m : Memory) (o : Outcome) → isDone n ≡ b → cond b o (unchanged s n m) .stepped .reply ≡ Done
+    → (isDone n ≡ true) × (cond b o (unchanged s n m) ≡ o)
+unfolding refusal
+open-by true n s m o d e = (d, refl)
+open-by false n s m o d e = absurd (false≢true (sym d ∙ ap isDone e))
 
-pub opened : (s : Cpu) (m : List ℕ) (o : Outcome) → checked s m o .stepped .reply ≡ Done → Open s m o (checked s m o)
-opened s m o e =
-    let h : ((tooLong m ≡ false) × (admitted s ≡ true)) × (checked s m o ≡ o) = open-by (tooLong m) (admitted s) s m o e in
-    record { short = h .0 .0; taken = h .0 .1; same = h .1 }
+pub opened : (s : Cpu) (l : Lent) (o : Outcome) → checked s l o .stepped .reply ≡ Done → Open s l o (checked s l o)
+opened s l o e =
+    let n : Reply = firstRefusal s l in
+    let h : (isDone n ≡ true) × (checked s l o ≡ o) = open-by (isDone n) n s (memoryOf l) o refl e in
+    record { ready = h .0; same = h .1 }
 
 -- and one that passes them goes on
-pub goes-on : (s : Cpu) (m : List ℕ) (o : Outcome) → tooLong m ≡ false → admitted s ≡ true → checked s m o ≡ o
-goes-on s m o short taken = rw (short, taken)
+pub goes-on : (s : Cpu) (l : Lent) (o : Outcome) → Ready s l → checked s l o ≡ o
+goes-on s l o ready = rw ready
 
 -- a test on the way to an entry
-pub passed : (b : Bool) (n : Reply) → (n ≡ Done → ⊥) → (s : Cpu) (m : List ℕ) (o : Outcome)
+pub passed : (b : Bool) (n : Reply) → (n ≡ Done → ⊥) → (s : Cpu) (m : Memory) (o : Outcome)
     → cond b o (unchanged s n m) .stepped .reply ≡ Done → cond b o (unchanged s n m) ≡ o
 passed true n h s m o e = refl
 passed false n h s m o e = absurd (not-done n h s m e)
 
-pub not-passed : (b : Bool) (n : Reply) → (n ≡ Done → ⊥) → (s : Cpu) (m : List ℕ) (o : Outcome)
+pub not-passed : (b : Bool) (n : Reply) → (n ≡ Done → ⊥) → (s : Cpu) (m : Memory) (o : Outcome)
     → cond b (unchanged s n m) o .stepped .reply ≡ Done → cond b (unchanged s n m) o ≡ o
 not-passed true n h s m o e = absurd (not-done n h s m e)
 not-passed false n h s m o e = refl

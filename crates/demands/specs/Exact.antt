@@ -27,31 +27,59 @@ use Rattle.manual.specs.declared.Action.{Action}
 use Rattle.manual.specs.declared.Action.the-variants.{Nothing, Store, StoreMany, LoadMany, Enter, Return, Status, Stop, PushStatus, Halt, Other, Accumulate, SetAcc, SetExt, SetMacsr, SetMask, CopyAcc, ClearAcc, Refuse}
 use Rattle.manual.specs.Word.{plus, minus}
 use Rattle.manual.specs.Registers.{addressOf}
-use Rattle.manual.specs.Memory.{inside, valueAt, numberAt}
-use Rattle.manual.specs.Reply.{numberOf, Outcome}
+use Rattle.manual.specs.Memory.{Storage, Memory, storageOf, valueAt, numberAt}
+use Rattle.manual.specs.Reply.{numberOf, isDone, Outcome}
 use Rattle.manual.specs.Admitted.{admitted}
+use Rattle.manual.specs.Lent.{Lent, memoryOf, lentOn, lentRefusal, firstRefusal}
 use Rattle.manual.specs.Exceptions.{levelTaken, masked, exception, interrupt, rte, push32, pop32, setSrCall, ipl, supervisorCall}
 use Rattle.manual.specs.EmacCalls.{accGetCall, accSetCall, accPhysCall, setAccPhysCall, setMacsrCall}
 use Rattle.manual.specs.Block.{saysAdmitted, readBlock, storeBlock}
 use Rattle.manual.specs.Image.{imageState, imageReply, loadImage}
 use Rattle.instructions.specs.Step.{instruction, step}
 use Rattle.instructions.specs.Run.{RunOutcome, run}
-use Rattle.demands.specs.Accesses.{access, Outside, SomeOutside, entryAt, returnAt, accesses}
+use Rattle.demands.specs.Accesses.{wanted, Inside, Outside, SomeOutside, entryAt, returnAt, accesses}
 
 -- the number of an outcome's reply
 abbrev pub numbered : Outcome → ℕ
 numbered o = numberOf (o .stepped .reply)
 
--- neither reply 1 nor reply 2: memory is short enough, and the state is admitted
-abbrev pub Ready : Cpu → List ℕ → Type 0
-Ready s m = (length m ≤ 0x100_0000) × (admitted s ≡ true)
+-- every number of storage is a byte
+abbrev pub Bytes : Storage → Type 0
+Bytes b = (j : ℕ) → getD b j 0 < 256
+
+-- memory is too long: over 16,777,216 bytes
+abbrev pub TooLong : Lent → Type 0
+TooLong l = 0x100_0000 < length (l .storage)
+
+-- no test of what is lent fails
+abbrev pub Usable : Lent → Type 0
+Usable l = isDone (lentRefusal l) ≡ true
+
+-- no test fails that comes before the call begins
+abbrev pub Ready : Cpu → Lent → Type 0
+Ready s l = isDone (firstRefusal s l) ≡ true
+
+-- a reply is one of these numbers
+abbrev pub OneOf : List ℕ → ℕ → Type 0
+OneOf [] n = ⊥
+OneOf (k ∷ ks) n = (n ≡ k) ⊎ OneOf ks n
+
+-- what these words mean, and what it is to be inside
+pub record Meanings : Type 0 where
+  pub usable : (l : Lent) → Usable l ↔ (TooLong l → ⊥)
+  pub ready : (s : Cpu) (l : Lent) → Ready s l ↔ (Usable l × (admitted s ≡ true))
+  pub first-1 : (s : Cpu) (l : Lent) → (numberOf (firstRefusal s l) ≡ 1) ↔ TooLong l
+  pub first-2 : (s : Cpu) (l : Lent) → (numberOf (firstRefusal s l) ≡ 2) ↔ (Usable l × (admitted s ≡ false))
+  pub first-of : (s : Cpu) (l : Lent) → OneOf (0 ∷ 1 ∷ 2 ∷ []) (numberOf (firstRefusal s l))
+  pub inside : (m : Memory) (a n : ℕ) → Inside m a n ↔ (a + n ≤ length (storageOf m))
+  pub outside : (m : Memory) (a n : ℕ) → Outside m a n ↔ (length (storageOf m) < a + n)
 
 -- a word op at `at` that is not carried
-pub data NotCarriedWord (m : List ℕ) (at op : ℕ) : Type 0 where
+pub data NotCarriedWord (m : Memory) (at op : ℕ) : Type 0 where
   line-8 : op / 0x1000 ≡ 8 → NotCarriedWord m at op
   movec : (op ≡ 0x4E7A) ⊎ (op ≡ 0x4E7B) → NotCarriedWord m at op
   -- a MAC word, A000/F100, of a mode below 6, whose second word is inside and has bit 11 clear
-  word-operand : bitAnd op 0xF100 ≡ 0xA000 → op / 8 % 8 ≤ 5 → inside m (plus at 2) 2 ≡ true → numberAt m (plus at 2) Word / 0x800 % 2 ≡ 0
+  word-operand : bitAnd op 0xF100 ≡ 0xA000 → op / 8 % 8 ≤ 5 → Inside m (plus at 2) 2 → numberAt m (plus at 2) Word / 0x800 % 2 ≡ 0
       → NotCarriedWord m at op
 
 -- the vector that an instruction enters, or 0
@@ -78,41 +106,43 @@ vectorOf (Refuse n) = 0
 
 -- done: nothing stands against it. (Of the calls that make no access, 0 is what is left: NoOthers.)
 pub record Reply0 : Type 0 where
-  pub step-0 : (s : Cpu) (m : List ℕ) → ((j : ℕ) → getD m j 0 < 256)
-      → (numbered (step s m) ≡ 0)
-      ↔ (Ready s m × ((s .stopped ≡ false) × ((SomeOutside m (accesses s m) → ⊥) × (NotCarriedWord m (s .pc) (numberAt m (s .pc) Word) → ⊥))))
+  pub step-0 : (s : Cpu) (l : Lent) → Bytes (l .storage)
+      → let m : Memory = memoryOf l in
+      (numbered (step s l) ≡ 0)
+      ↔ (Ready s l × ((s .stopped ≡ false) × ((SomeOutside m (accesses s m) → ⊥) × (NotCarriedWord m (s .pc) (numberAt m (s .pc) Word) → ⊥))))
   -- a step also gives the vector it entered, or 0
-  pub step-vector : (s : Cpu) (m : List ℕ) → numbered (step s m) ≡ 0
-      → step s m .stepped .vector ≡ vectorOf (instruction (s .r) (s .pc) (s .sr) (s .other) (s .emac) m (numberAt m (s .pc) Word) .action)
+  pub step-vector : (s : Cpu) (l : Lent) → numbered (step s l) ≡ 0
+      → let m : Memory = memoryOf l in
+      step s l .stepped .vector ≡ vectorOf (instruction (s .r) (s .pc) (s .sr) (s .other) (s .emac) m (numberAt m (s .pc) Word) .action)
   -- a run: as many steps as the budget says
-  pub run-0 : (budget : ℕ) (s : Cpu) (m : List ℕ) → (numberOf (run budget s m .ran .reply) ≡ 0) ↔ (Ready s m × (run budget s m .ran .count ≡ budget))
-  pub exception-0 : (s : Cpu) (m : List ℕ) (vector pc : ℕ) (level : Level)
-      → (numbered (exception s m vector pc level) ≡ 0) ↔ (Ready s m × ((levelTaken level ≡ true) × (SomeOutside m (entryAt s level vector) → ⊥)))
-  pub interrupt-0 : (s : Cpu) (m : List ℕ) (vector level : ℕ)
-      → (numbered (interrupt s m vector level) ≡ 0)
-      ↔ (Ready s m × ((level < 8) × ((masked (s .sr) level ≡ false) × (SomeOutside m (entryAt s (To level) vector) → ⊥))))
-  pub rte-0 : (s : Cpu) (m : List ℕ) → (numbered (rte s m) ≡ 0) ↔ (Ready s m × (SomeOutside m (returnAt s) → ⊥))
-  pub push32-0 : (s : Cpu) (m : List ℕ) (v : ℕ) → (numbered (push32 s m v) ≡ 0) ↔ (Ready s m × (minus (addressOf (s .r) 7) 4 + 4 ≤ length m))
-  pub pop32-0 : (s : Cpu) (m : List ℕ) → (numberOf (pop32 s m .reply) ≡ 0) ↔ (Ready s m × (addressOf (s .r) 7 + 4 ≤ length m))
+  pub run-0 : (budget : ℕ) (s : Cpu) (l : Lent) → (numberOf (run budget s l .ran .reply) ≡ 0) ↔ (Ready s l × (run budget s l .ran .count ≡ budget))
+  pub exception-0 : (s : Cpu) (l : Lent) (vector pc : ℕ) (level : Level)
+      → (numbered (exception s l vector pc level) ≡ 0) ↔ (Ready s l × ((levelTaken level ≡ true) × (SomeOutside (memoryOf l) (entryAt s level vector) → ⊥)))
+  pub interrupt-0 : (s : Cpu) (l : Lent) (vector level : ℕ)
+      → (numbered (interrupt s l vector level) ≡ 0)
+      ↔ (Ready s l × ((level < 8) × ((masked (s .sr) level ≡ false) × (SomeOutside (memoryOf l) (entryAt s (To level) vector) → ⊥))))
+  pub rte-0 : (s : Cpu) (l : Lent) → (numbered (rte s l) ≡ 0) ↔ (Ready s l × (SomeOutside (memoryOf l) (returnAt s) → ⊥))
+  pub push32-0 : (s : Cpu) (l : Lent) (v : ℕ) → (numbered (push32 s l v) ≡ 0) ↔ (Ready s l × Inside (memoryOf l) (minus (addressOf (s .r) 7) 4) 4)
+  pub pop32-0 : (s : Cpu) (l : Lent) → (numberOf (pop32 s l .reply) ≡ 0) ↔ (Ready s l × Inside (memoryOf l) (addressOf (s .r) 7) 4)
 
 pub record Reply1 : Type 0 where
-  pub step-1 : (s : Cpu) (m : List ℕ) → (numbered (step s m) ≡ 1) ↔ (0x100_0000 < length m)
-  pub run-1 : (budget : ℕ) (s : Cpu) (m : List ℕ) → (numberOf (run budget s m .ran .reply) ≡ 1) ↔ (0x100_0000 < length m)
-  pub exception-1 : (s : Cpu) (m : List ℕ) (vector pc : ℕ) (level : Level) → (numbered (exception s m vector pc level) ≡ 1) ↔ (0x100_0000 < length m)
-  pub interrupt-1 : (s : Cpu) (m : List ℕ) (vector level : ℕ) → (numbered (interrupt s m vector level) ≡ 1) ↔ (0x100_0000 < length m)
-  pub rte-1 : (s : Cpu) (m : List ℕ) → (numbered (rte s m) ≡ 1) ↔ (0x100_0000 < length m)
-  pub push32-1 : (s : Cpu) (m : List ℕ) (v : ℕ) → (numbered (push32 s m v) ≡ 1) ↔ (0x100_0000 < length m)
-  pub pop32-1 : (s : Cpu) (m : List ℕ) → (numberOf (pop32 s m .reply) ≡ 1) ↔ (0x100_0000 < length m)
+  pub step-1 : (s : Cpu) (l : Lent) → (numbered (step s l) ≡ 1) ↔ TooLong l
+  pub run-1 : (budget : ℕ) (s : Cpu) (l : Lent) → (numberOf (run budget s l .ran .reply) ≡ 1) ↔ TooLong l
+  pub exception-1 : (s : Cpu) (l : Lent) (vector pc : ℕ) (level : Level) → (numbered (exception s l vector pc level) ≡ 1) ↔ TooLong l
+  pub interrupt-1 : (s : Cpu) (l : Lent) (vector level : ℕ) → (numbered (interrupt s l vector level) ≡ 1) ↔ TooLong l
+  pub rte-1 : (s : Cpu) (l : Lent) → (numbered (rte s l) ≡ 1) ↔ TooLong l
+  pub push32-1 : (s : Cpu) (l : Lent) (v : ℕ) → (numbered (push32 s l v) ≡ 1) ↔ TooLong l
+  pub pop32-1 : (s : Cpu) (l : Lent) → (numberOf (pop32 s l .reply) ≡ 1) ↔ TooLong l
 
 pub record Reply2 : Type 0 where
-  pub step-2 : (s : Cpu) (m : List ℕ) → (numbered (step s m) ≡ 2) ↔ ((length m ≤ 0x100_0000) × (admitted s ≡ false))
-  pub run-2 : (budget : ℕ) (s : Cpu) (m : List ℕ) → (numberOf (run budget s m .ran .reply) ≡ 2) ↔ ((length m ≤ 0x100_0000) × (admitted s ≡ false))
-  pub exception-2 : (s : Cpu) (m : List ℕ) (vector pc : ℕ) (level : Level)
-      → (numbered (exception s m vector pc level) ≡ 2) ↔ ((length m ≤ 0x100_0000) × (admitted s ≡ false))
-  pub interrupt-2 : (s : Cpu) (m : List ℕ) (vector level : ℕ) → (numbered (interrupt s m vector level) ≡ 2) ↔ ((length m ≤ 0x100_0000) × (admitted s ≡ false))
-  pub rte-2 : (s : Cpu) (m : List ℕ) → (numbered (rte s m) ≡ 2) ↔ ((length m ≤ 0x100_0000) × (admitted s ≡ false))
-  pub push32-2 : (s : Cpu) (m : List ℕ) (v : ℕ) → (numbered (push32 s m v) ≡ 2) ↔ ((length m ≤ 0x100_0000) × (admitted s ≡ false))
-  pub pop32-2 : (s : Cpu) (m : List ℕ) → (numberOf (pop32 s m .reply) ≡ 2) ↔ ((length m ≤ 0x100_0000) × (admitted s ≡ false))
+  pub step-2 : (s : Cpu) (l : Lent) → (numbered (step s l) ≡ 2) ↔ (Usable l × (admitted s ≡ false))
+  pub run-2 : (budget : ℕ) (s : Cpu) (l : Lent) → (numberOf (run budget s l .ran .reply) ≡ 2) ↔ (Usable l × (admitted s ≡ false))
+  pub exception-2 : (s : Cpu) (l : Lent) (vector pc : ℕ) (level : Level)
+      → (numbered (exception s l vector pc level) ≡ 2) ↔ (Usable l × (admitted s ≡ false))
+  pub interrupt-2 : (s : Cpu) (l : Lent) (vector level : ℕ) → (numbered (interrupt s l vector level) ≡ 2) ↔ (Usable l × (admitted s ≡ false))
+  pub rte-2 : (s : Cpu) (l : Lent) → (numbered (rte s l) ≡ 2) ↔ (Usable l × (admitted s ≡ false))
+  pub push32-2 : (s : Cpu) (l : Lent) (v : ℕ) → (numbered (push32 s l v) ≡ 2) ↔ (Usable l × (admitted s ≡ false))
+  pub pop32-2 : (s : Cpu) (l : Lent) → (numberOf (pop32 s l .reply) ≡ 2) ↔ (Usable l × (admitted s ≡ false))
   pub set-sr-2 : (s : Cpu) (v : ℕ) → (numberOf (setSrCall s v .reply) ≡ 2) ↔ (admitted s ≡ false)
   pub ipl-2 : (s : Cpu) → (numberOf (ipl s .reply) ≡ 2) ↔ (admitted s ≡ false)
   pub supervisor-2 : (s : Cpu) → (numberOf (supervisorCall s .reply) ≡ 2) ↔ (admitted s ≡ false)
@@ -124,55 +154,58 @@ pub record Reply2 : Type 0 where
 
 -- a run: with budget left, in the state after the steps that were done
 pub record Reply3 : Type 0 where
-  pub step-3 : (s : Cpu) (m : List ℕ) → (numbered (step s m) ≡ 3) ↔ (Ready s m × (s .stopped ≡ true))
-  pub run-3 : (budget : ℕ) (s : Cpu) (m : List ℕ)
-      → (numberOf (run budget s m .ran .reply) ≡ 3) ↔ (Ready s m × ((run budget s m .ran .count < budget) × (run budget s m .ran .cpu .stopped ≡ true)))
+  pub step-3 : (s : Cpu) (l : Lent) → (numbered (step s l) ≡ 3) ↔ (Ready s l × (s .stopped ≡ true))
+  pub run-3 : (budget : ℕ) (s : Cpu) (l : Lent)
+      → (numberOf (run budget s l .ran .reply) ≡ 3) ↔ (Ready s l × ((run budget s l .ran .count < budget) × (run budget s l .ran .cpu .stopped ≡ true)))
 
 -- some access of the call is not inside. An entry stores two longs and reads the vector, a return reads two longs
 pub record Reply4 : Type 0 where
-  pub exception-4 : (s : Cpu) (m : List ℕ) (vector pc : ℕ) (level : Level)
-      → (numbered (exception s m vector pc level) ≡ 4) ↔ (Ready s m × ((levelTaken level ≡ true) × SomeOutside m (entryAt s level vector)))
-  pub interrupt-4 : (s : Cpu) (m : List ℕ) (vector level : ℕ)
-      → (numbered (interrupt s m vector level) ≡ 4)
-      ↔ (Ready s m × ((level < 8) × ((masked (s .sr) level ≡ false) × SomeOutside m (entryAt s (To level) vector))))
-  pub rte-4 : (s : Cpu) (m : List ℕ) → (numbered (rte s m) ≡ 4) ↔ (Ready s m × SomeOutside m (returnAt s))
-  pub push32-4 : (s : Cpu) (m : List ℕ) (v : ℕ) → (numbered (push32 s m v) ≡ 4) ↔ (Ready s m × Outside m (minus (addressOf (s .r) 7) 4) 4)
-  pub pop32-4 : (s : Cpu) (m : List ℕ) → (numberOf (pop32 s m .reply) ≡ 4) ↔ (Ready s m × Outside m (addressOf (s .r) 7) 4)
+  pub exception-4 : (s : Cpu) (l : Lent) (vector pc : ℕ) (level : Level)
+      → (numbered (exception s l vector pc level) ≡ 4) ↔ (Ready s l × ((levelTaken level ≡ true) × SomeOutside (memoryOf l) (entryAt s level vector)))
+  pub interrupt-4 : (s : Cpu) (l : Lent) (vector level : ℕ)
+      → (numbered (interrupt s l vector level) ≡ 4)
+      ↔ (Ready s l × ((level < 8) × ((masked (s .sr) level ≡ false) × SomeOutside (memoryOf l) (entryAt s (To level) vector))))
+  pub rte-4 : (s : Cpu) (l : Lent) → (numbered (rte s l) ≡ 4) ↔ (Ready s l × SomeOutside (memoryOf l) (returnAt s))
+  pub push32-4 : (s : Cpu) (l : Lent) (v : ℕ) → (numbered (push32 s l v) ≡ 4) ↔ (Ready s l × Outside (memoryOf l) (minus (addressOf (s .r) 7) 4) 4)
+  pub pop32-4 : (s : Cpu) (l : Lent) → (numberOf (pop32 s l .reply) ≡ 4) ↔ (Ready s l × Outside (memoryOf l) (addressOf (s .r) 7) 4)
   -- a step: the fetch of its word, the reads of the word's row, and what its instruction leaves to be done
-  pub step-4 : (s : Cpu) (m : List ℕ) → (numbered (step s m) ≡ 4) ↔ (Ready s m × ((s .stopped ≡ false) × SomeOutside m (accesses s m)))
+  pub step-4 : (s : Cpu) (l : Lent) → (numbered (step s l) ≡ 4) ↔ (Ready s l × ((s .stopped ≡ false) × SomeOutside (memoryOf l) (accesses s (memoryOf l))))
   -- a run: with budget left, some access of the next step is not inside, in the state and memory after the steps that were done
-  pub run-4 : (budget : ℕ) (s : Cpu) (m : List ℕ)
-      → let r : RunOutcome = run budget s m in
+  pub run-4 : (budget : ℕ) (s : Cpu) (l : Lent)
+      → let r : RunOutcome = run budget s l in
+      let m : Memory = memoryOf (lentOn l (r .storage)) in
       (numberOf (r .ran .reply) ≡ 4)
-      ↔ (Ready s m × ((r .ran .count < budget) × ((r .ran .cpu .stopped ≡ false) × SomeOutside (r .memory) (accesses (r .ran .cpu) (r .memory)))))
+      ↔ (Ready s l × ((r .ran .count < budget) × ((r .ran .cpu .stopped ≡ false) × SomeOutside m (accesses (r .ran .cpu) m))))
   -- an instruction that reads nothing and leaves nothing to be done has no access but the fetch of its word: NOP, BITREV
-  pub nop-fetched : (s : Cpu) (m : List ℕ) → numberAt m (s .pc) Word ≡ 0x4E71 → accesses s m ≡ access (s .pc) 2 ∷ []
-  pub bitrev-fetched : (s : Cpu) (m : List ℕ) (r : ℕ) → r < 8 → numberAt m (s .pc) Word ≡ 0x00C0 + r → accesses s m ≡ access (s .pc) 2 ∷ []
+  pub nop-fetched : (s : Cpu) (m : Memory) → numberAt m (s .pc) Word ≡ 0x4E71 → accesses s m ≡ wanted (s .pc) 2 ∷ []
+  pub bitrev-fetched : (s : Cpu) (m : Memory) (r : ℕ) → r < 8 → numberAt m (s .pc) Word ≡ 0x00C0 + r → accesses s m ≡ wanted (s .pc) 2 ∷ []
 
 pub record Reply5 : Type 0 where
-  pub step-5 : (s : Cpu) (m : List ℕ) → ((j : ℕ) → getD m j 0 < 256)
-      → (numbered (step s m) ≡ 5)
-      ↔ (Ready s m × ((s .stopped ≡ false) × ((s .pc + 2 ≤ length m) × NotCarriedWord m (s .pc) (numberAt m (s .pc) Word))))
+  pub step-5 : (s : Cpu) (l : Lent) → Bytes (l .storage)
+      → let m : Memory = memoryOf l in
+      (numbered (step s l) ≡ 5)
+      ↔ (Ready s l × ((s .stopped ≡ false) × (Inside m (s .pc) 2 × NotCarriedWord m (s .pc) (numberAt m (s .pc) Word))))
   -- a run: with budget left, in the state and memory after the steps that were done
-  pub run-5 : (budget : ℕ) (s : Cpu) (m : List ℕ) → ((j : ℕ) → getD m j 0 < 256)
-      → let r : RunOutcome = run budget s m in
+  pub run-5 : (budget : ℕ) (s : Cpu) (l : Lent) → Bytes (l .storage)
+      → let r : RunOutcome = run budget s l in
+      let m : Memory = memoryOf (lentOn l (r .storage)) in
       let pc : ℕ = r .ran .cpu .pc in
       (numberOf (r .ran .reply) ≡ 5)
-      ↔ (Ready s m
-      × ((r .ran .count < budget) × ((r .ran .cpu .stopped ≡ false) × ((pc + 2 ≤ length (r .memory)) × NotCarriedWord (r .memory) pc (numberAt (r .memory) pc Word)))))
+      ↔ (Ready s l
+      × ((r .ran .count < budget) × ((r .ran .cpu .stopped ≡ false) × (Inside m pc 2 × NotCarriedWord m pc (numberAt m pc Word)))))
 
 pub record Reply6 : Type 0 where
-  pub exception-6 : (s : Cpu) (m : List ℕ) (vector pc level : ℕ) → (numbered (exception s m vector pc (To level)) ≡ 6) ↔ (Ready s m × (8 ≤ level))
-  pub exception-kept-6 : (s : Cpu) (m : List ℕ) (vector pc : ℕ) → numbered (exception s m vector pc Kept) ≡ 6 → ⊥
-  pub interrupt-6 : (s : Cpu) (m : List ℕ) (vector level : ℕ) → (numbered (interrupt s m vector level) ≡ 6) ↔ (Ready s m × (8 ≤ level))
+  pub exception-6 : (s : Cpu) (l : Lent) (vector pc level : ℕ) → (numbered (exception s l vector pc (To level)) ≡ 6) ↔ (Ready s l × (8 ≤ level))
+  pub exception-kept-6 : (s : Cpu) (l : Lent) (vector pc : ℕ) → numbered (exception s l vector pc Kept) ≡ 6 → ⊥
+  pub interrupt-6 : (s : Cpu) (l : Lent) (vector level : ℕ) → (numbered (interrupt s l vector level) ≡ 6) ↔ (Ready s l × (8 ≤ level))
   pub acc-get-6 : (s : Cpu) (i : ℕ) → (numberOf (accGetCall s i .reply) ≡ 6) ↔ ((admitted s ≡ true) × (4 ≤ i))
   pub acc-phys-6 : (s : Cpu) (i : ℕ) → (numberOf (accPhysCall s i .reply) ≡ 6) ↔ ((admitted s ≡ true) × (4 ≤ i))
   pub acc-set-6 : (s : Cpu) (i v : ℕ) → (numberOf (accSetCall s i v .reply) ≡ 6) ↔ ((admitted s ≡ true) × (4 ≤ i))
   pub set-acc-phys-6 : (s : Cpu) (i acc ext : ℕ) → (numberOf (setAccPhysCall s i acc ext .reply) ≡ 6) ↔ ((admitted s ≡ true) × (4 ≤ i))
 
 pub record Reply7 : Type 0 where
-  pub interrupt-7 : (s : Cpu) (m : List ℕ) (vector level : ℕ)
-      → (numbered (interrupt s m vector level) ≡ 7) ↔ (Ready s m × ((level < 7) × (level ≤ s .sr / 0x100 % 8)))
+  pub interrupt-7 : (s : Cpu) (l : Lent) (vector level : ℕ)
+      → (numbered (interrupt s l vector level) ≡ 7) ↔ (Ready s l × ((level < 7) × (level ≤ s .sr / 0x100 % 8)))
 
 -- a block has 128 bytes, of which the first is 1 and the next four say 123
 pub record Reply8And9 : Type 0 where
@@ -197,20 +230,15 @@ pub record Reply8And9 : Type 0 where
   pub load-image-8 : (f m : List ℕ) → (numberOf (loadImage f m .reply) ≡ 8) ↔ ((length m ≡ 49152) × (numberOf (imageReply f) ≡ 8))
   pub load-image-2 : (f m : List ℕ) → (numberOf (loadImage f m .reply) ≡ 2) ↔ ((length m ≡ 49152) × (numberOf (imageReply f) ≡ 2))
 
--- a reply is one of these numbers
-abbrev pub OneOf : List ℕ → ℕ → Type 0
-OneOf [] n = ⊥
-OneOf (k ∷ ks) n = (n ≡ k) ⊎ OneOf ks n
-
 -- a call gives no other reply than these, so 0 exactly where it gives none of the others
 pub record NoOthers : Type 0 where
-  pub step-of : (s : Cpu) (m : List ℕ) → OneOf (0 ∷ 1 ∷ 2 ∷ 3 ∷ 4 ∷ 5 ∷ []) (numbered (step s m))
-  pub run-of : (budget : ℕ) (s : Cpu) (m : List ℕ) → OneOf (0 ∷ 1 ∷ 2 ∷ 3 ∷ 4 ∷ 5 ∷ []) (numberOf (run budget s m .ran .reply))
-  pub exception-of : (s : Cpu) (m : List ℕ) (vector pc : ℕ) (level : Level) → OneOf (0 ∷ 1 ∷ 2 ∷ 4 ∷ 6 ∷ []) (numbered (exception s m vector pc level))
-  pub interrupt-of : (s : Cpu) (m : List ℕ) (vector level : ℕ) → OneOf (0 ∷ 1 ∷ 2 ∷ 4 ∷ 6 ∷ 7 ∷ []) (numbered (interrupt s m vector level))
-  pub rte-of : (s : Cpu) (m : List ℕ) → OneOf (0 ∷ 1 ∷ 2 ∷ 4 ∷ []) (numbered (rte s m))
-  pub push32-of : (s : Cpu) (m : List ℕ) (v : ℕ) → OneOf (0 ∷ 1 ∷ 2 ∷ 4 ∷ []) (numbered (push32 s m v))
-  pub pop32-of : (s : Cpu) (m : List ℕ) → OneOf (0 ∷ 1 ∷ 2 ∷ 4 ∷ []) (numberOf (pop32 s m .reply))
+  pub step-of : (s : Cpu) (l : Lent) → OneOf (0 ∷ 1 ∷ 2 ∷ 3 ∷ 4 ∷ 5 ∷ []) (numbered (step s l))
+  pub run-of : (budget : ℕ) (s : Cpu) (l : Lent) → OneOf (0 ∷ 1 ∷ 2 ∷ 3 ∷ 4 ∷ 5 ∷ []) (numberOf (run budget s l .ran .reply))
+  pub exception-of : (s : Cpu) (l : Lent) (vector pc : ℕ) (level : Level) → OneOf (0 ∷ 1 ∷ 2 ∷ 4 ∷ 6 ∷ []) (numbered (exception s l vector pc level))
+  pub interrupt-of : (s : Cpu) (l : Lent) (vector level : ℕ) → OneOf (0 ∷ 1 ∷ 2 ∷ 4 ∷ 6 ∷ 7 ∷ []) (numbered (interrupt s l vector level))
+  pub rte-of : (s : Cpu) (l : Lent) → OneOf (0 ∷ 1 ∷ 2 ∷ 4 ∷ []) (numbered (rte s l))
+  pub push32-of : (s : Cpu) (l : Lent) (v : ℕ) → OneOf (0 ∷ 1 ∷ 2 ∷ 4 ∷ []) (numbered (push32 s l v))
+  pub pop32-of : (s : Cpu) (l : Lent) → OneOf (0 ∷ 1 ∷ 2 ∷ 4 ∷ []) (numberOf (pop32 s l .reply))
   pub set-sr-of : (s : Cpu) (v : ℕ) → OneOf (0 ∷ 2 ∷ []) (numberOf (setSrCall s v .reply))
   pub ipl-of : (s : Cpu) → OneOf (0 ∷ 2 ∷ []) (numberOf (ipl s .reply))
   pub supervisor-of : (s : Cpu) → OneOf (0 ∷ 2 ∷ []) (numberOf (supervisorCall s .reply))

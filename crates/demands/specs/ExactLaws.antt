@@ -7,10 +7,15 @@ use Rattle.manual.specs.declared.Level.the-variants.{Kept, To}
 use Rattle.manual.specs.Admitted.{admitted}
 use Rattle.manual.specs.Exceptions.{maskOf}
 use Rattle.demands.specs.ReplyLaws as laws
-use Rattle.demands.specs.Exact.{Reply0, Reply1, Reply2, Reply3, Reply4, Reply5, Reply6, Reply7, Reply8And9, NoOthers}
+use Rattle.demands.specs.AccessLaws.{inside-is, outside-is}
+use Rattle.demands.specs.FirstReplies.{usable-is, ready-is, first-1, first-2, first-of}
+use Rattle.demands.specs.Exact.{Meanings, Reply0, Reply1, Reply2, Reply3, Reply4, Reply5, Reply6, Reply7, Reply8And9, NoOthers}
 use Rattle.demands.specs.StepReplies.{of-step-0, of-vector, of-run-0, of-step-1, of-step-2, of-step-3, of-step-4, of-step-5, of-step, of-nop, of-bitrev, of-run-1, of-run-2, of-run-3, of-run-4, of-run-5, of-run}
 use Rattle.demands.specs.EntryReplies.{of-exception-0, of-interrupt-0, of-rte-0, of-push-0, of-pop-0, of-exception-1, of-exception-2, of-exception-4, of-exception-6, of-exception, of-interrupt-1, of-interrupt-2, of-interrupt-4, of-interrupt-6, of-interrupt-7, of-interrupt, of-rte-1, of-rte-2, of-rte-4, of-rte, of-push-1, of-push-2, of-push-4, of-push, of-pop-1, of-pop-2, of-pop-4, of-pop}
 use Rattle.demands.specs.CallReplies.{set-sr-number, told-number, not-2, zero-or-2, acc-2, acc-6, acc-of, acc-get-number, acc-phys-number, acc-set-number, set-acc-phys-number, set-macsr-number, of-read-9, of-read-8, of-read-2, read-of, of-store-9, of-store-2, store-of, of-image-9, of-image-8, of-image-2, of-load-9, of-load, load-of}
+
+pub meanings : Meanings
+meanings = record { usable = usable-is; ready = ready-is; first-1 = first-1; first-2 = first-2; first-of = first-of; inside = inside-is; outside = outside-is }
 
 pub reply-0 : Reply0
 reply-0 = record {
@@ -67,8 +72,8 @@ reply-5 = record { step-5 = of-step-5; run-5 = of-run-5 }
 
 pub reply-6 : Reply6
 reply-6 = record {
-  exception-6 = λ s m vector pc level. laws.iff-trans (of-exception-6 s m vector pc (To level)) (laws.iff-and laws.iff-same (laws.iff-not-lt level 8));
-  exception-kept-6 = λ s m vector pc e. false≢true (sym (of-exception-6 s m vector pc Kept .0 e .1));
+  exception-6 = λ s l vector pc level. laws.iff-trans (of-exception-6 s l vector pc (To level)) (laws.iff-and laws.iff-same (laws.iff-not-lt level 8));
+  exception-kept-6 = λ s l vector pc e. false≢true (sym (of-exception-6 s l vector pc Kept .0 e .1));
   interrupt-6 = of-interrupt-6;
   acc-get-6 = λ s i. rw (acc-get-number s i) (acc-6 (admitted s) i);
   acc-phys-6 = λ s i. rw (acc-phys-number s i) (acc-6 (admitted s) i);

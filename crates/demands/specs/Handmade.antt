@@ -14,11 +14,14 @@ use Rattle.manual.specs.Word as word
 use Rattle.manual.specs.Flags as flags
 use Rattle.manual.specs.Registers as registers
 use Rattle.manual.specs.Memory as memory
+use Rattle.manual.specs.Memory.{Storage}
 use Rattle.manual.specs.Address as address
 use Rattle.manual.specs.Shift as shift
 use Rattle.manual.specs.Divide as divide
 use Rattle.manual.specs.Emac as emac
 use Rattle.manual.specs.Admitted as admitted
+use Rattle.manual.specs.Lent as lents
+use Rattle.manual.specs.Lent.{Lent, lent, memoryOf}
 use Rattle.manual.specs.Change as change
 use Rattle.manual.specs.Exceptions as exceptions
 use Rattle.instructions.specs.Rows.{value, mask, rowOf, placeIn}
@@ -56,10 +59,14 @@ abbrev «V» : ℕ
 abbrev C : ℕ
 C = 1
 
+-- words, the high byte of each first
+abbrev bytesOf : List ℕ → Storage
+bytesOf [] = []
+bytesOf (w ∷ ws) = (w / 0x100) ∷ (w % 0x100) ∷ bytesOf ws
+
 -- a program at address 0
-abbrev program : List ℕ → List ℕ
-program [] = []
-program (w ∷ ws) = (w / 0x100) ∷ (w % 0x100) ∷ program ws
+abbrev program : List ℕ → Lent
+program words = lent (bytesOf words)
 
 -- a state with these D0, D1 and D2, status register and MACSR, and the rest 0
 abbrev state : ℕ → ℕ → ℕ → ℕ → ℕ → Cpu
@@ -84,10 +91,11 @@ accumulated words d0 macsr =
 abbrev undone : ℕ → ℕ → ℕ → ℕ → List ℕ
 undone a7 sr vector pc =
     let s : Cpu = registers.withAddress 7 a7 (state 0 0 0 sr 0) in
-    let o : Outcome = exceptions.exception s (replicate 0x110 0) vector pc Kept in
+    let o : Outcome = exceptions.exception s (lent (replicate 0x110 0)) vector pc Kept in
+    let l : Lent = lent (o .storage) in
     let at : ℕ = registers.addressOf (o .stepped .cpu .r) 7 in
-    let b : Outcome = exceptions.rte (o .stepped .cpu) (o .memory) in
-    at ∷ memory.numberAt (o .memory) at Long ∷ memory.numberAt (o .memory) (at + 4) Long
+    let b : Outcome = exceptions.rte (o .stepped .cpu) l in
+    at ∷ memory.numberAt (memoryOf l) at Long ∷ memory.numberAt (memoryOf l) (at + 4) Long
     ∷ registers.addressOf (b .stepped .cpu .r) 7 ∷ b .stepped .cpu .pc ∷ []
 
 -- words that two rows fit
@@ -127,5 +135,5 @@ examples =
     ∷ [])
 
 pub checked-by-hand : map (λ x. x .given) examples ≡ map (λ x. x .said) examples
-unfolding examples step execute instruction perform rowOf placeIn admitted.admitted admitted.status admitted.emacAdmitted memory.load memory.valueAt memory.storeAt word.cut word.merged word.plus word.minus word.sizeOf word.signedAt word.signExtended registers.dataOf registers.addressOf registers.general registers.noWrite registers.writeData registers.written registers.withParts registers.withAddress registers.withPc registers.withSr registers.withStopped registers.withEmac registers.coded registers.applied address.operand address.extension address.source address.value address.fetch address.locate address.moved change.done change.acting flags.codes flags.keptCodes flags.moveCodes flags.added flags.subtracted flags.sumOrDifference flags.sumCodes l9.sums l9.toData le.lineE le.shift le.shifted le.shiftCount shift.shiftedLeft shift.signedShiftedRight shift.shiftCodes l4.line4 l4.divide l4.divided divide.signedQuotient divide.overflowCodes l0.line0 l0.findFirstOne leadingZeros la.lineA la.mac la.macRegisters la.toEmac la.setting emac.modeOf emac.accOf emac.withAcc emac.settled emac.accumulate emac.moveTo exceptions.setSr exceptions.handling exceptions.frameLong exceptions.handlerState exceptions.entered exceptions.returned exceptions.left exceptions.exception exceptions.rte fresh
+unfolding examples step execute instruction perform rowOf placeIn admitted.admitted admitted.status admitted.emacAdmitted memory.load memory.valueAt memory.storeAt word.cut word.merged word.plus word.minus word.sizeOf word.signedAt word.signExtended registers.dataOf registers.addressOf registers.general registers.noWrite registers.writeData registers.written registers.withParts registers.withAddress registers.withPc registers.withSr registers.withStopped registers.withEmac registers.coded registers.applied address.operand address.extension address.source address.value address.fetch address.locate address.moved change.done change.acting flags.codes flags.keptCodes flags.moveCodes flags.added flags.subtracted flags.sumOrDifference flags.sumCodes l9.sums l9.toData le.lineE le.shift le.shifted le.shiftCount shift.shiftedLeft shift.signedShiftedRight shift.shiftCodes l4.line4 l4.divide l4.divided divide.signedQuotient divide.overflowCodes l0.line0 l0.findFirstOne leadingZeros la.lineA la.mac la.macRegisters la.toEmac la.setting emac.modeOf emac.accOf emac.withAcc emac.settled emac.accumulate emac.moveTo exceptions.setSr exceptions.handling exceptions.frameLong exceptions.handlerState exceptions.entered exceptions.returned exceptions.left exceptions.exception exceptions.rte fresh lents.lentRefusal lents.stateRefusal lents.firstRefusal memory.access
 checked-by-hand = refl

@@ -12,12 +12,13 @@ use lib.Dec.{T, eqb, ltb, leb, leb→le, lit<}
 use borrow.Author.Tests.{eqb-true, eq-eqb, ltb-false, le-ltb, lt-ltb}
 use Rattle.manual.specs.declared.Size.the-variants.{Word, Long}
 use Rattle.manual.specs.declared.Emac.{Emac}
-use Rattle.manual.specs.declared.Fault.the-variants.{Outside as Out}
-use Rattle.manual.specs.declared.Got.the-variants.{Value, Fault as NoValue}
+use Rattle.manual.specs.declared.Access.{Access}
+use Rattle.manual.specs.declared.Access.the-variants.{Here, Not}
+use Rattle.manual.specs.declared.Stored.the-variants.{Done as Taken}
 use Rattle.manual.specs.declared.Change.{Change}
 use Rattle.manual.specs.Word.{plus, minus, signExtended}
 use Rattle.manual.specs.Registers.{addressOf}
-use Rattle.manual.specs.Memory.{inside, numberAt, load}
+use Rattle.manual.specs.Memory.{Memory, access, taken, load, numberAt}
 use Rattle.manual.specs.Change.{acting, enterAfter, enter, notCarried, reading}
 use Rattle.word.specs.TestLaws.{by-lt}
 use Rattle.rows.specs.TableLaws.{agree, allBelow, below}
@@ -37,20 +38,17 @@ use Rattle.instructions.specs.LineC as lc
 use Rattle.instructions.specs.LineE as le
 use Rattle.instructions.specs.LineF as lf
 use Rattle.demands.specs.Accesses as acc
-use Rattle.demands.specs.Accesses.{Access, none, wordAt, longAt}
-use Rattle.demands.specs.PartLaws.{missed, Made, refused-4, cond-made, load-made, end, row, out, listed}
+use Rattle.demands.specs.Accesses.{Access, none, wordAt, longAt, Wanted, Inside}
+use Rattle.demands.specs.PartLaws.{missed, Made, refused-4, cond-made, load-made, end, row, out, listed, accessAll, past-inside, refused-number}
 use Rattle.demands.specs.BodyLaws.{movecRead, movecWrite, macRow, line0-made, line1-made, line2-made, line3-made, line4-made, sums-made, line5-made, line6-made, line7-made, lineB-made, lineC-made, lineE-made, lineF-made, lineA-made}
+use Rattle.demands.specs.AccessLaws.{load-inside, load-not}
 
 -- ---- MAC and MSAC: a word operand is not carried, in the modes that an instruction of the line has
 
-load-is : (b : Bool) (m : List ℕ) (a : ℕ) → inside m a 2 ≡ b → load m a Word ≡ cond b (Value (numberAt m a Word)) (NoValue Out)
-unfolding load
-load-is b m a h = rw h
+abbrev pub MacWord : ℕ → Memory → ℕ → Type 0
+MacWord at m op = (op / 8 % 8 ≤ 5) × (Inside m (plus at 2) 2 × (numberAt m (plus at 2) Word / 0x800 % 2 ≡ 0))
 
-abbrev pub MacWord : ℕ → List ℕ → ℕ → Type 0
-MacWord at m op = (op / 8 % 8 ≤ 5) × ((inside m (plus at 2) 2 ≡ true) × (numberAt m (plus at 2) Word / 0x800 % 2 ≡ 0))
-
-module _ (g : List ℕ) (at sr mask : ℕ) (m : List ℕ) (op : ℕ) where
+module _ (g : List ℕ) (at sr mask : ℕ) (m : Memory) (op : ℕ) where
   abbrev second : ℕ
   second = numberAt m (plus at 2) Word
 
@@ -62,7 +60,7 @@ module _ (g : List ℕ) (at sr mask : ℕ) (m : List ℕ) (op : ℕ) where
   mac-load next a = load-made m (la.loadAddress mask second a) Long [] _ refl
 
   -- what the parallel load reads after the second word
-  abbrev after : List Access
+  abbrev after : List Wanted
   after = cond (ltb 5 (op / 8 % 8)) none (cond (eqb (second / 0x800 % 2) 0) none (acc.loadReads g at m op mask second))
 
   load-reads : Made m (acc.loadReads g at m op mask second)
@@ -77,7 +75,7 @@ module _ (g : List ℕ) (at sr mask : ℕ) (m : List ℕ) (op : ℕ) where
       (mac-load _ plain)
 
   -- a word operand, or one whose accesses those are
-  abbrev WordOr : List Access → Change → Type 0
+  abbrev WordOr : List Wanted → Change → Type 0
   WordOr l c = ((op / 8 % 8 ≤ 5) × (second / 0x800 % 2 ≡ 0)) ⊎ Made m l c
 
   with-load : WordOr after (la.macWithLoad g at sr mask m op second)
@@ -96,9 +94,9 @@ module _ (g : List ℕ) (at sr mask : ℕ) (m : List ℕ) (op : ℕ) where
 
   mac-made : MacWord at m op ⊎ Made m (acc.macReads g at m op mask) (la.mac g at sr mask m op)
   unfolding la.mac la.macRegisters acting
-  mac-made = by (inside m (plus at 2) 2) refl
+  mac-made = by (access m (plus at 2) 2) refl
     where
-      rest : List Access
+      rest : List Wanted
       rest = cond (eqb (op / 16 % 4) 0) none after
 
       registers : (a b : Bool) → eqb (op / 16 % 4) 0 ≡ a → eqb (second / 0x800 % 2) 0 ≡ b
@@ -107,13 +105,13 @@ module _ (g : List ℕ) (at sr mask : ℕ) (m : List ℕ) (op : ℕ) where
       registers true false ea eb = inr refl
       registers false b ea eb = with-load
 
-      by : (b : Bool) → inside m (plus at 2) 2 ≡ b → MacWord at m op ⊎ Made m (acc.macReads g at m op mask) (la.mac g at sr mask m op)
-      by true i = ⊎-elim (λ h. inl (h .0, (i, h .1))) (λ h. inr (load-made m (plus at 2) Word rest _ h)) (registers _ _ refl refl)
-      by false i = inr (rw (load-is false m (plus at 2) i, i) (refused-4 Out))
+      by : (x : Access) → access m (plus at 2) 2 ≡ x → MacWord at m op ⊎ Made m (acc.macReads g at m op mask) (la.mac g at sr mask m op)
+      by (Here p) i = ⊎-elim (λ h. inl (h .0, (ap taken i, h .1))) (λ h. inr (load-made m (plus at 2) Word rest _ h)) (registers _ _ refl refl)
+      by (Not x) i = inr (rw (load-not m (plus at 2) Word x i, i) (refused-number x))
 
   pub mac-refused : MacWord at m op → la.mac g at sr mask m op ≡ notCarried
   unfolding la.mac
-  mac-refused h = rw (load-is true m (plus at 2) (h .1 .0)) (by (eqb (op / 16 % 4) 0))
+  mac-refused h = rw (load-inside m (plus at 2) Word (h .1 .0)) (by (eqb (op / 16 % 4) 0))
     where
       by : (a : Bool)
           → cond a (cond (eqb (second / 0x800 % 2) 0) notCarried (la.macRegisters g at sr op second)) (la.macWithLoad g at sr mask m op second) ≡ notCarried
@@ -121,10 +119,10 @@ module _ (g : List ℕ) (at sr mask : ℕ) (m : List ℕ) (op : ℕ) where
       by false = load-refused second (h .0) (h .1 .1)
 
   -- its second word is read then, and no more
-  mac-inside : MacWord at m op → missed m (acc.macReads g at m op mask) ≡ false
-  mac-inside h = rw (h .1 .0) (by (eqb (op / 16 % 4) 0))
+  mac-inside : MacWord at m op → accessAll m (acc.macReads g at m op mask) ≡ Taken
+  mac-inside h = past-inside m (plus at 2) 2 (cond (eqb (op / 16 % 4) 0) none after) (h .1 .0) ∙ by (eqb (op / 16 % 4) 0)
     where
-      by : (a : Bool) → missed m (cond a none after) ≡ false
+      by : (a : Bool) → accessAll m (cond a none after) ≡ Taken
       by true = refl
       by false = rw (le-ltb 5 (op / 8 % 8) (h .0), eq-eqb (second / 0x800 % 2) 0 (h .1 .1))
 
@@ -181,11 +179,11 @@ mac-row op small f =
 -- ---- every instruction
 
 -- line 8, the rows MOVEC_READ and MOVEC_WRITE, and the row MAC with a word operand
-abbrev pub Excused : ℕ → List ℕ → ℕ → Type 0
+abbrev pub Excused : ℕ → Memory → ℕ → Type 0
 Excused at m op = (op / 0x1000 % 16 ≡ 8) ⊎ (((rowOf op ≡ movecRead) ⊎ (rowOf op ≡ movecWrite)) ⊎ ((rowOf op ≡ macRow) × MacWord at m op))
 
-module _ (g : List ℕ) (at sr other : ℕ) (e : Emac) (m : List ℕ) (op : ℕ) where
-  abbrev its-reads : List Access
+module _ (g : List ℕ) (at sr other : ℕ) (e : Emac) (m : Memory) (op : ℕ) where
+  abbrev its-reads : List Wanted
   its-reads = acc.reads g at m op (e .mask)
 
   abbrev its-change : Change
@@ -237,7 +235,7 @@ module _ (g : List ℕ) (at sr other : ℕ) (e : Emac) (m : List ℕ) (op : ℕ)
 
   -- the word is one of those and not carried, and its reads are inside; or the instruction refuses where one of its reads is not inside
   abbrev Either : Type 0
-  Either = (Excused at m op × ((its-change ≡ notCarried) × (missed m its-reads ≡ false))) ⊎ Made m its-reads its-change
+  Either = (Excused at m op × ((its-change ≡ notCarried) × (accessAll m its-reads ≡ Taken))) ⊎ Made m its-reads its-change
 
   line-4 : op / 0x1000 % 16 ≡ 4 → Either
   line-4 h = ⊎-elim not-carried (λ f. inr (rw (in-line-4 h .0, in-line-4 h .1) f)) (line4-made g at sr m op other (rowOf op))
@@ -245,7 +243,7 @@ module _ (g : List ℕ) (at sr other : ℕ) (e : Emac) (m : List ℕ) (op : ℕ)
       not-carried : (firstRow 4 + placeIn (firstRow 4) (rowOf op) ≡ movecRead) ⊎ (firstRow 4 + placeIn (firstRow 4) (rowOf op) ≡ movecWrite) → Either
       not-carried k =
           let r : (rowOf op ≡ movecRead) ⊎ (rowOf op ≡ movecWrite) = ⊎-elim (λ x. inl (row-at (firstRow 4) (rowOf op) movecRead (lit< tt) x)) (λ x. inr (row-at (firstRow 4) (rowOf op) movecWrite (lit< tt) x)) k in
-          inl (inr (inl r), (in-line-4 h .0 ∙ movec-at r .0, ap (missed m) (in-line-4 h .1 ∙ movec-at r .1)))
+          inl (inr (inl r), (in-line-4 h .0 ∙ movec-at r .0, ap (accessAll m) (in-line-4 h .1 ∙ movec-at r .1)))
 
   line-a : op / 0x1000 % 16 ≡ 10 → Either
   line-a h = ⊎-elim row-mac (λ f. inr (rw (in-line-a h .0, in-line-a h .1) f)) (lineA-made g at sr m op e (rowOf op))
@@ -256,7 +254,7 @@ module _ (g : List ℕ) (at sr other : ℕ) (e : Emac) (m : List ℕ) (op : ℕ)
           let c : its-change ≡ la.mac g at sr (e .mask) m op = in-line-a h .0 ∙ at-mac r .0 in
           let l : its-reads ≡ acc.macReads g at m op (e .mask) = in-line-a h .1 ∙ at-mac r .1 in
           ⊎-elim
-          (λ w. inl (inr (inr (r, w)), (c ∙ mac-refused g at sr (e .mask) m op w, ap (missed m) l ∙ mac-inside g at sr (e .mask) m op w)))
+          (λ w. inl (inr (inr (r, w)), (c ∙ mac-refused g at sr (e .mask) m op w, ap (accessAll m) l ∙ mac-inside g at sr (e .mask) m op w)))
           (λ f. inr (rw (c, l) f))
           (mac-made g at sr (e .mask) m op)
 
@@ -268,7 +266,7 @@ module _ (g : List ℕ) (at sr other : ℕ) (e : Emac) (m : List ℕ) (op : ℕ)
       lines
     where
       in-8 : op / 0x1000 % 16 ≡ 8 → Either
-      in-8 h = inl (inl h, (in-line-8 h .0, ap (missed m) (in-line-8 h .1)))
+      in-8 h = inl (inl h, (in-line-8 h .0, ap (accessAll m) (in-line-8 h .1)))
 
   movec-line : op < 0x1_0000 → (rowOf op ≡ movecRead) ⊎ (rowOf op ≡ movecWrite) → op / 0x1000 % 16 ≡ 4
   movec-line small (inl h) = omega (arith, movec-read op small h)

@@ -1,3 +1,7 @@
+pub mod Accesses
+pub mod Exact
+pub mod AccessLaws
+pub mod FirstReplies
 pub mod EntryLaws
 pub mod StepLaws
 pub mod Undone
@@ -5,8 +9,6 @@ pub mod ValueLaws
 pub mod Nesting
 pub mod Refusals
 pub mod Runs
-pub mod Accesses
-pub mod Exact
 pub mod PartLaws
 pub mod BodyLaws
 pub mod InstructionLaws
@@ -15,7 +17,6 @@ pub mod StepReplies
 pub mod EntryReplies
 pub mod CallReplies
 pub mod ExactLaws
-pub mod Host
 pub mod Handmade
 pub mod Followed
 pub mod Engines

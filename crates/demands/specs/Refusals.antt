@@ -13,6 +13,9 @@ use Rattle.manual.specs.declared.Cpu.{Cpu}
 use Rattle.manual.specs.declared.Level.{Level}
 use Rattle.manual.specs.declared.Level.the-variants.{To}
 use Rattle.manual.specs.declared.Size.the-variants.{Long}
+use Rattle.manual.specs.declared.Fault.{Fault}
+use Rattle.manual.specs.declared.Got.{Got}
+use Rattle.manual.specs.declared.Got.the-variants.{Value, Fault as NoValue}
 use Rattle.manual.specs.declared.Reply.{Reply}
 use Rattle.manual.specs.declared.Reply.the-variants.{Done, TooLong, NotAdmitted, Stopped, NotInside, NotCarried, OutOfRange, Masked, WrongVersion, WrongLength}
 use Rattle.manual.specs.declared.Answer.{Answer}
@@ -21,35 +24,37 @@ use Rattle.manual.specs.declared.Popped.{Popped}
 use Rattle.manual.specs.declared.Action.{Action}
 use Rattle.manual.specs.declared.Action.the-variants.{Nothing, Store, StoreMany, LoadMany, Enter, Return, Status, Stop, PushStatus, Halt, Other, Accumulate, SetAcc, SetExt, SetMacsr, SetMask, CopyAcc, ClearAcc, Refuse}
 use Rattle.manual.specs.declared.Change.{Change}
-use Rattle.manual.specs.Word.{bytes, plus, minus}
+use Rattle.manual.specs.Word.{plus, minus}
 use Rattle.manual.specs.Registers.{addressOf, applied}
-use Rattle.manual.specs.Memory.{inside, valueAt, numberAt, manyInside}
-use Rattle.manual.specs.Reply.{numberOf, isDone, Outcome, completed, unchanged, refusal}
-use Rattle.manual.specs.Admitted.{admitted, tooLong, checked}
+use Rattle.manual.specs.Memory.{Storage, Memory, storageOf, valueAt, access, load, storing, accessMany}
+use Rattle.manual.specs.Reply.{numberOf, isDone, Outcome, completed, unchanged, refusal, faultReply}
+use Rattle.manual.specs.Admitted.{admitted}
+use Rattle.manual.specs.Lent.{Lent, memoryOf, firstRefusal, checked}
 use Rattle.manual.specs.Differences.{vectorPlace}
-use Rattle.manual.specs.Exceptions.{setSr, handling, pcPlace, framePlace, framed, handlerState, entered, returned, left, levelTaken, masked, exception, interrupt, rte, push32, notPopped, pop32, setSrCall, told, ipl, supervisorCall}
+use Rattle.manual.specs.Exceptions.{setSr, handling, pcPlace, framePlace, entered, left, levelTaken, masked, exception, interrupt, rte, push32, notPopped, popped, pop32, setSrCall, told, ipl, supervisorCall}
 use Rattle.manual.specs.EmacCalls.{accGetCall, accSetCall, accPhysCall, setAccPhysCall, setMacsrCall}
 use Rattle.manual.specs.Block.{fresh, notRead, saysAdmitted, stateAt, readBlock, blockOf, Stored, storeBlock}
 use Rattle.manual.specs.Image.{imageMemory, imageState, imageReply, imageBudget, imageBytes, Image, image, notLoaded, loadImage}
 use Rattle.instructions.specs.Perform.{statusPushed, act, perform}
 use Rattle.instructions.specs.Step.{execute, step}
+use Rattle.demands.specs.AccessLaws.{accessing-all, loading-all, taking-all}
 
 -- the reply is not 0
 abbrev pub NotZero : Reply → Type 0
 NotZero n = numberOf n ≡ 0 → ⊥
 
--- if the reply is not 0, the state is s, memory is m and the vector is 0
-abbrev pub Unchanged : Cpu → List ℕ → Outcome → Type 0
-Unchanged s m o = NotZero (o .stepped .reply) → ((o .stepped .cpu ≡ s) × (o .memory ≡ m)) × (o .stepped .vector ≡ 0)
+-- if the reply is not 0, the state is s, storage is b and the vector is 0
+abbrev pub Unchanged : Cpu → Storage → Outcome → Type 0
+Unchanged s b o = NotZero (o .stepped .reply) → ((o .stepped .cpu ≡ s) × (o .storage ≡ b)) × (o .stepped .vector ≡ 0)
 
 pub record Refusals : Type 0 where
-  pub of-step : (s : Cpu) (m : List ℕ) → Unchanged s m (step s m)
-  pub of-perform : (s : Cpu) (c : Change) (m : List ℕ) → Unchanged s m (perform s c m)
-  pub of-exception : (s : Cpu) (m : List ℕ) (vector pc : ℕ) (level : Level) → Unchanged s m (exception s m vector pc level)
-  pub of-interrupt : (s : Cpu) (m : List ℕ) (vector level : ℕ) → Unchanged s m (interrupt s m vector level)
-  pub of-rte : (s : Cpu) (m : List ℕ) → Unchanged s m (rte s m)
-  pub of-push32 : (s : Cpu) (m : List ℕ) (v : ℕ) → Unchanged s m (push32 s m v)
-  pub of-pop32 : (s : Cpu) (m : List ℕ) → NotZero (pop32 s m .reply) → (pop32 s m .cpu ≡ s) × (pop32 s m .value ≡ 0)
+  pub of-step : (s : Cpu) (l : Lent) → Unchanged s (l .storage) (step s l)
+  pub of-perform : (s : Cpu) (c : Change) (m : Memory) → Unchanged s (storageOf m) (perform s c m)
+  pub of-exception : (s : Cpu) (l : Lent) (vector pc : ℕ) (level : Level) → Unchanged s (l .storage) (exception s l vector pc level)
+  pub of-interrupt : (s : Cpu) (l : Lent) (vector level : ℕ) → Unchanged s (l .storage) (interrupt s l vector level)
+  pub of-rte : (s : Cpu) (l : Lent) → Unchanged s (l .storage) (rte s l)
+  pub of-push32 : (s : Cpu) (l : Lent) (v : ℕ) → Unchanged s (l .storage) (push32 s l v)
+  pub of-pop32 : (s : Cpu) (l : Lent) → NotZero (pop32 s l .reply) → (pop32 s l .cpu ≡ s) × (pop32 s l .value ≡ 0)
   pub of-set-sr : (s : Cpu) (v : ℕ) → NotZero (setSrCall s v .reply) → setSrCall s v .cpu ≡ s
   pub of-ipl : (s : Cpu) → NotZero (ipl s .reply) → ipl s .value ≡ 0
   pub of-supervisor : (s : Cpu) → NotZero (supervisorCall s .reply) → supervisorCall s .value ≡ 0
@@ -106,113 +111,117 @@ is-refused n h = by (isDone n) refl
     by true d = absurd (done-not (rw (is-done n d) at h))
     by false d = refl
 
-module _ (given : Cpu) (m : List ℕ) where
-  either : (b : Bool) (x y : Outcome) → Unchanged given m x → Unchanged given m y → Unchanged given m (cond b x y)
+module _ (given : Cpu) (m : Memory) where
+  abbrev Kept : Outcome → Type 0
+  Kept = Unchanged given (storageOf m)
+
+  either : (b : Bool) (x y : Outcome) → Kept x → Kept y → Kept (cond b x y)
   either true x y p q = p
   either false x y p q = q
 
-  done-kept : (s : Cpu) (n : ℕ) (m′ : List ℕ) → Unchanged given m (completed s n m′)
-  done-kept s n m′ h = absurd (done-not h)
+  done-kept : (s : Cpu) (n : ℕ) (b : Storage) → Kept (completed s n b)
+  done-kept s n b h = absurd (done-not h)
 
-  same-kept : (n : Reply) → Unchanged given m (unchanged given n m)
+  same-kept : (n : Reply) → Kept (unchanged given n m)
   unfolding refusal
   same-kept n h = ((refl, refl), refl)
 
-  -- done where a test holds, and refused otherwise
-  tested : (b : Bool) (s : Cpu) (n : ℕ) (m′ : List ℕ) (r : Reply) → Unchanged given m (cond b (completed s n m′) (unchanged given r m))
-  tested b s n m′ r = either b (completed s n m′) (unchanged given r m) (done-kept s n m′) (same-kept r)
+  fault-kept : (x : Fault) → Kept (unchanged given (faultReply x) m)
+  fault-kept x = same-kept (faultReply x)
 
-  checked-kept : (o : Outcome) → Unchanged given m o → Unchanged given m (checked given m o)
-  checked-kept o h =
-      either (tooLong m) (unchanged given TooLong m) (cond (admitted given) o (unchanged given NotAdmitted m)) (same-kept TooLong)
-      (either (admitted given) o (unchanged given NotAdmitted m) h (same-kept NotAdmitted))
-
-  entered-kept : (s : Cpu) (level : Level) (vector pc : ℕ) → Unchanged given m (entered given s level vector pc m)
+  entered-kept : (s : Cpu) (level : Level) (vector pc : ℕ) → Kept (entered given s level vector pc m)
   unfolding entered
   entered-kept s level vector pc =
       let t : Cpu = setSr (handling level (s .sr)) s in
       let sp : ℕ = addressOf (t .r) 7 in
-      let m′ : List ℕ = framed m sp vector (s .sr) pc in
-      let place : ℕ = vectorPlace (s .vbr) vector in
-      let no : Outcome = unchanged given NotInside m in
-      let third : Outcome = cond (inside m place 4) (completed (handlerState t (framePlace sp) (numberAt m′ place Long)) vector m′) no in
-      let second : Outcome = cond (inside m (framePlace sp) 4) third no in
-      either (inside m (pcPlace sp) 4) second no
-      (either (inside m (framePlace sp) 4) third no (tested (inside m place 4) _ vector m′ NotInside) (same-kept NotInside))
-      (same-kept NotInside)
+      accessing-all Kept given m fault-kept (access m (pcPlace sp) 4) _ λ high.
+      accessing-all Kept given m fault-kept (access m (framePlace sp) 4) _ λ low.
+      accessing-all Kept given m fault-kept (access m (vectorPlace (s .vbr) vector) 4) _ λ table.
+      done-kept _ vector _
 
-  left-kept : (s : Cpu) → Unchanged given m (left given s m)
+  left-kept : (s : Cpu) → Kept (left given s m)
   unfolding left
   left-kept s =
       let sp : ℕ = addressOf (s .r) 7 in
-      let no : Outcome = unchanged given NotInside m in
-      let second : Outcome = cond (inside m (plus sp 4) 4) (completed (returned s sp (numberAt m sp Long) (numberAt m (plus sp 4) Long)) 0 m) no in
-      either (inside m sp 4) second no (tested (inside m (plus sp 4) 4) _ 0 m NotInside) (same-kept NotInside)
+      loading-all Kept given m fault-kept (load m sp Long) _ λ w.
+      loading-all Kept given m fault-kept (load m (plus sp 4) Long) _ λ pc.
+      done-kept _ 0 _
 
-  act-kept : (s : Cpu) (a : Action) → Unchanged given m (act given s a m)
+  act-kept : (s : Cpu) (a : Action) → Kept (act given s a m)
   unfolding statusPushed
-  act-kept s Nothing = done-kept s 0 m
-  act-kept s (Store a z v) = tested (inside m a (bytes z)) s 0 _ NotInside
-  act-kept s (StoreMany mask a) = tested (manyInside 16 m mask a) s 0 _ NotInside
-  act-kept s (LoadMany mask a) = tested (manyInside 16 m mask a) _ 0 m NotInside
+  act-kept s Nothing = done-kept s 0 _
+  act-kept s (Store a z v) = taking-all Kept given m fault-kept (storing m a z) _ (done-kept s 0 _)
+  act-kept s (StoreMany mask a) = taking-all Kept given m fault-kept (accessMany 16 m mask a) _ (done-kept s 0 _)
+  act-kept s (LoadMany mask a) = taking-all Kept given m fault-kept (accessMany 16 m mask a) _ (done-kept _ 0 _)
   act-kept s (Enter vector pc) = entered-kept s _ vector pc
   act-kept s Return = left-kept s
-  act-kept s (Status v) = done-kept _ 0 m
-  act-kept s (Stop v) = done-kept _ 0 m
-  act-kept s (PushStatus v) = tested (inside m (minus (addressOf (s .r) 7) 4) 4) _ 0 _ NotInside
-  act-kept s Halt = done-kept _ 0 m
-  act-kept s (Other v) = done-kept _ 0 m
-  act-kept s (Accumulate i scale sub x y) = done-kept _ 0 m
-  act-kept s (SetAcc i v) = done-kept _ 0 m
-  act-kept s (SetExt i v) = done-kept _ 0 m
-  act-kept s (SetMacsr v) = done-kept _ 0 m
-  act-kept s (SetMask v) = done-kept _ 0 m
-  act-kept s (CopyAcc from to) = done-kept _ 0 m
-  act-kept s (ClearAcc i) = done-kept _ 0 m
+  act-kept s (Status v) = done-kept _ 0 _
+  act-kept s (Stop v) = done-kept _ 0 _
+  act-kept s (PushStatus v) = taking-all Kept given m fault-kept (storing m (minus (addressOf (s .r) 7) 4) Long) _ (done-kept _ 0 _)
+  act-kept s Halt = done-kept _ 0 _
+  act-kept s (Other v) = done-kept _ 0 _
+  act-kept s (Accumulate i scale sub x y) = done-kept _ 0 _
+  act-kept s (SetAcc i v) = done-kept _ 0 _
+  act-kept s (SetExt i v) = done-kept _ 0 _
+  act-kept s (SetMacsr v) = done-kept _ 0 _
+  act-kept s (SetMask v) = done-kept _ 0 _
+  act-kept s (CopyAcc from to) = done-kept _ 0 _
+  act-kept s (ClearAcc i) = done-kept _ 0 _
   act-kept s (Refuse n) = same-kept n
 
-  pub perform-kept : (c : Change) → Unchanged given m (perform given c m)
+  pub perform-kept : (c : Change) → Kept (perform given c m)
   unfolding perform
   perform-kept c = act-kept (applied given c) (c .action)
 
-  pub step-kept : Unchanged given m (step given m)
+module _ (given : Cpu) (l : Lent) where
+  abbrev m : Memory
+  m = memoryOf l
+
+  checked-kept : (o : Outcome) → Unchanged given (l .storage) o → Unchanged given (l .storage) (checked given l o)
+  checked-kept o h = either given m (isDone (firstRefusal given l)) o (unchanged given (firstRefusal given l) m) h (same-kept given m (firstRefusal given l))
+
+  pub step-kept : Unchanged given (l .storage) (step given l)
   unfolding step
   step-kept =
       checked-kept _
-      (either (given .stopped) (unchanged given Stopped m) _ (same-kept Stopped) (perform-kept (execute (given .r) (given .pc) (given .sr) (given .other) (given .emac) m)))
+      (either given m (given .stopped) (unchanged given Stopped m) _ (same-kept given m Stopped)
+      (perform-kept given m (execute (given .r) (given .pc) (given .sr) (given .other) (given .emac) m)))
 
-  exception-kept : (vector pc : ℕ) (level : Level) → Unchanged given m (exception given m vector pc level)
+  exception-kept : (vector pc : ℕ) (level : Level) → Unchanged given (l .storage) (exception given l vector pc level)
   unfolding exception
   exception-kept vector pc level =
-      checked-kept _ (either (levelTaken level) _ (unchanged given OutOfRange m) (entered-kept given level vector pc) (same-kept OutOfRange))
+      checked-kept _ (either given m (levelTaken level) _ (unchanged given OutOfRange m) (entered-kept given m given level vector pc) (same-kept given m OutOfRange))
 
-  interrupt-kept : (vector level : ℕ) → Unchanged given m (interrupt given m vector level)
+  interrupt-kept : (vector level : ℕ) → Unchanged given (l .storage) (interrupt given l vector level)
   unfolding interrupt
   interrupt-kept vector level =
       checked-kept _
-      (either (ltb level 8) (cond (masked (given .sr) level) (unchanged given Masked m) (entered given given (To level) vector (given .pc) m)) (unchanged given OutOfRange m)
-      (either (masked (given .sr) level) (unchanged given Masked m) _ (same-kept Masked) (entered-kept given (To level) vector (given .pc)))
-      (same-kept OutOfRange))
+      (either given m (ltb level 8) (cond (masked (given .sr) level) (unchanged given Masked m) (entered given given (To level) vector (given .pc) m)) (unchanged given OutOfRange m)
+      (either given m (masked (given .sr) level) (unchanged given Masked m) _ (same-kept given m Masked) (entered-kept given m given (To level) vector (given .pc)))
+      (same-kept given m OutOfRange))
 
-  rte-kept : Unchanged given m (rte given m)
+  rte-kept : Unchanged given (l .storage) (rte given l)
   unfolding rte
-  rte-kept = checked-kept _ (left-kept given)
+  rte-kept = checked-kept _ (left-kept given m given)
 
-  push-kept : (v : ℕ) → Unchanged given m (push32 given m v)
+  push-kept : (v : ℕ) → Unchanged given (l .storage) (push32 given l v)
   unfolding push32
-  push-kept v = checked-kept _ (tested (inside m (minus (addressOf (given .r) 7) 4) 4) _ 0 _ NotInside)
+  push-kept v =
+      checked-kept _ (taking-all (Kept given m) given m (fault-kept given m) (storing m (minus (addressOf (given .r) 7) 4) Long) _ (done-kept given m _ 0 _))
 
-pop-by : (a b c : Bool) (s : Cpu) (done : Popped) → done .reply ≡ Done
-    → let o : Popped = cond a (notPopped s TooLong) (cond b (cond c done (notPopped s NotInside)) (notPopped s NotAdmitted)) in
-    NotZero (o .reply) → (o .cpu ≡ s) × (o .value ≡ 0)
-pop-by true b c s done e h = (refl, refl)
-pop-by false true true s done e h = absurd (done-not (rw e at h))
-pop-by false true false s done e h = (refl, refl)
-pop-by false false c s done e h = (refl, refl)
+  pop-kept : NotZero (pop32 given l .reply) → (pop32 given l .cpu ≡ given) × (pop32 given l .value ≡ 0)
+  unfolding pop32
+  pop-kept = by (isDone (firstRefusal given l)) (load m sp Long)
+    where
+      sp : ℕ
+      sp = addressOf (given .r) 7
 
-pop-kept : (s : Cpu) (m : List ℕ) → NotZero (pop32 s m .reply) → (pop32 s m .cpu ≡ s) × (pop32 s m .value ≡ 0)
-unfolding pop32
-pop-kept s m h = pop-by (tooLong m) (admitted s) (inside m (addressOf (s .r) 7) 4) s _ refl h
+      by : (b : Bool) (x : Got)
+          → let o : Popped = cond b (popped given sp x) (notPopped given (firstRefusal given l)) in
+          NotZero (o .reply) → (o .cpu ≡ given) × (o .value ≡ 0)
+      by true (Value v) h = absurd (done-not h)
+      by true (NoValue x) h = (refl, refl)
+      by false x h = (refl, refl)
 
 set-sr-by : (b : Bool) (s : Cpu) (x : Cpu)
     → let o : Answer = cond b (record { reply = Done; cpu = x }) (record { reply = NotAdmitted; cpu = s }) in

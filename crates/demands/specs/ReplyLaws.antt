@@ -1,34 +1,41 @@
 -- Replies by their numbers: what number a tree of tests gives, and when. Assumes nothing.
-use Prim.Native.Nat.{ℕ, zero, suc, _/_, _%_, _≤_, _<_, _+_}
+use Prim.Native.Nat.{ℕ, zero, suc, _/_, _%_, _≤_, _<_}
 use mathlib.Core.Path.{_≡_, refl, sym, ap, _∙_}
 use mathlib.Core.Bool.{Bool, true, false, cond, _&&_, false≢true}
 use mathlib.Core.List.{List, [], _∷_}
 use mathlib.Core.Logic.{_↔_, _⊎_, ⊎-elim, inl, inr}
 use native.Mathlib.Omega.{arith}
 use lib.Dec.{eqb, ltb, leb}
-use lib.ListN.{length}
 use borrow.Author.Tests.{ltb-true, ltb-false, lt-ltb, le-ltb, leb-true, leb-false, le-leb, lt-leb, eqb-true, eqb-false, eq-eqb, ne-eqb}
 use Rattle.manual.specs.declared.Cpu.{Cpu}
 use Rattle.manual.specs.declared.Level.{Level}
+use Rattle.manual.specs.declared.Size.{Size}
 use Rattle.manual.specs.declared.Size.the-variants.{Long}
+use Rattle.manual.specs.declared.Fault.{Fault}
+use Rattle.manual.specs.declared.Fault.the-variants.{Outside as Out}
+use Rattle.manual.specs.declared.Access.{Access}
+use Rattle.manual.specs.declared.Access.the-variants.{Here, Not}
+use Rattle.manual.specs.declared.Stored.{Stored}
+use Rattle.manual.specs.declared.Stored.the-variants.{Done as Taken, Fault as NotTaken}
 use Rattle.manual.specs.declared.Reply.{Reply}
-use Rattle.manual.specs.declared.Reply.the-variants.{TooLong, NotAdmitted, NotInside}
 use Rattle.manual.specs.declared.Action.{Action}
 use Rattle.manual.specs.declared.Action.the-variants.{Nothing, Store, StoreMany, LoadMany, Enter, Return, Status, Stop, PushStatus, Halt, Other, Accumulate, SetAcc, SetExt, SetMacsr, SetMask, CopyAcc, ClearAcc, Refuse}
 use Rattle.manual.specs.declared.Change.{Change}
 use Rattle.manual.specs.Word.{bytes, plus, minus}
 use Rattle.manual.specs.Registers.{addressOf, applied}
-use Rattle.manual.specs.Memory.{inside, numberAt, manyInside}
-use Rattle.manual.specs.Reply.{numberOf, Outcome, completed, unchanged, refusal}
-use Rattle.manual.specs.Admitted.{admitted, tooLong, checked}
+use Rattle.manual.specs.Memory.{Memory, storageOf, access, taken, found, load, storing, firstFault, accessMany}
+use Rattle.manual.specs.Reply.{numberOf, Outcome, unchanged, refusal, faultReply, accessing, loading, taking}
+use Rattle.manual.specs.Admitted.{admitted}
+use Rattle.manual.specs.Lent.{Lent, memoryOf, firstRefusal, checked}
 use Rattle.manual.specs.Differences.{vectorPlace}
 use Rattle.manual.specs.Change.{notCarried, refuse}
-use Rattle.manual.specs.Exceptions.{setSr, handling, pcPlace, framePlace, framed, handlerState, entered, left}
+use Rattle.manual.specs.Exceptions.{setSr, handling, pcPlace, framePlace, entered, left}
 use Rattle.instructions.specs.Perform.{statusPushed, act, perform}
-use Rattle.demands.specs.Accesses.{Access, access, Outside, SomeOutside, this, another, entryAt, returnAt, manyLongs, leaves}
-use Rattle.demands.specs.PartLaws.{refusing, missed, missed-some}
-use Rattle.word.specs.TestLaws.{by-lt}
-use Rattle.demands.specs.Exact.{numbered, vectorOf, OneOf}
+use Rattle.demands.specs.Accesses.{Wanted, wanted, Inside, Outside, SomeOutside, this, another, entryAt, returnAt, manyLongs, leaves}
+use Rattle.demands.specs.AccessLaws.{taken-or-not, accessing-all, loading-all, taking-all}
+use Rattle.demands.specs.FirstReplies.{first-1, first-2, first-of}
+use Rattle.demands.specs.PartLaws.{refusing, accessAll, numberOr, some-outside}
+use Rattle.demands.specs.Exact.{numbered, TooLong, Usable, Ready, vectorOf, OneOf}
 
 -- ---- equivalences
 
@@ -111,149 +118,177 @@ pub number-cond : (b : Bool) (x y : Outcome) → numbered (cond b x y) ≡ cond 
 number-cond true x y = refl
 number-cond false x y = refl
 
-pub number-same : (s : Cpu) (n : Reply) (m : List ℕ) → numbered (unchanged s n m) ≡ numberOf n
+pub number-same : (s : Cpu) (n : Reply) (m : Memory) → numbered (unchanged s n m) ≡ numberOf n
 unfolding refusal
 number-same s n m = refl
 
--- replies 1 and 2 come before all else
-module _ (s : Cpu) (m : List ℕ) (o : Outcome) where
-  checked-number : numbered (checked s m o) ≡ cond (tooLong m) 1 (cond (admitted s) (numbered o) 2)
+-- the first refusals come before all else
+module _ (s : Cpu) (l : Lent) (o : Outcome) where
+  abbrev first : ℕ
+  first = numberOf (firstRefusal s l)
+
+  checked-number : numbered (checked s l o) ≡ cond (eqb first 0) (numbered o) first
   unfolding refusal
-  checked-number =
-      number-cond (tooLong m) (unchanged s TooLong m) (cond (admitted s) o (unchanged s NotAdmitted m))
-      ∙ ap (λ (x : ℕ). cond (tooLong m) 1 x) (number-cond (admitted s) o (unchanged s NotAdmitted m))
+  checked-number = number-cond (eqb first 0) o (unchanged s (firstRefusal s l) (memoryOf l))
 
-  pub checked-of : (l : List ℕ) → OneOf l 1 → OneOf l 2 → OneOf l (numbered o) → OneOf l (numbered (checked s m o))
-  checked-of l one two h = same-of l checked-number (either-of l (tooLong m) 1 _ one (either-of l (admitted s) (numbered o) 2 h two))
+  pub checked-of : (ks : List ℕ) → OneOf ks 1 → OneOf ks 2 → OneOf ks (numbered o) → OneOf ks (numbered (checked s l o))
+  checked-of ks one two h = same-of ks checked-number (by (eqb first 0) refl (first-of s l))
+    where
+      by : (b : Bool) → eqb first 0 ≡ b → OneOf (0 ∷ 1 ∷ 2 ∷ []) first → OneOf ks (cond b (numbered o) first)
+      by true e w = h
+      by false e (inl z) = absurd (eqb-false first 0 e z)
+      by false e (inr (inl z)) = same-of ks z one
+      by false e (inr (inr (inl z))) = same-of ks z two
 
-  pub checked-1 : (numbered o ≡ 1 → ⊥) → (numbered (checked s m o) ≡ 1) ↔ (0x100_0000 < length m)
-  checked-1 n =
-      rw checked-number
-      (iff-trans (here 1 (cond (admitted s) (numbered o) 2) (neither (admitted s) (numbered o) 2 1 n (λ h. omega arith)) (tooLong m)) (iff-lt 0x100_0000 (length m)))
+  -- a reply that only they give
+  pub checked-first : (k : ℕ) → (0 ≡ k → ⊥) → (numbered o ≡ k → ⊥) → (numbered (checked s l o) ≡ k) ↔ (first ≡ k)
+  checked-first k z n = rw checked-number (by (eqb first 0) refl)
+    where
+      by : (b : Bool) → eqb first 0 ≡ b → (cond b (numbered o) first ≡ k) ↔ (first ≡ k)
+      by true e = (λ h. absurd (n h), λ h. absurd (z (sym (eqb-true first 0 e) ∙ h)))
+      by false e = iff-same
 
-  pub checked-2 : (numbered o ≡ 2 → ⊥) → (numbered (checked s m o) ≡ 2) ↔ ((length m ≤ 0x100_0000) × (admitted s ≡ false))
-  checked-2 n =
-      rw checked-number
-      (iff-trans (later 2 (cond (admitted s) (numbered o) 2) 1 (λ h. omega arith) (tooLong m))
-      (iff-and (iff-not-lt 0x100_0000 (length m)) (here-else 2 (numbered o) n (admitted s))))
+  pub checked-1 : (numbered o ≡ 1 → ⊥) → (numbered (checked s l o) ≡ 1) ↔ TooLong l
+  checked-1 n = iff-trans (checked-first 1 (λ h. omega arith) n) (first-1 s l)
 
-  pub checked-on : (k : ℕ) → (1 ≡ k → ⊥) → (2 ≡ k → ⊥) → (numbered (checked s m o) ≡ k) ↔ (((length m ≤ 0x100_0000) × (admitted s ≡ true)) × (numbered o ≡ k))
-  checked-on k n1 n2 =
-      rw checked-number
-      (iff-trans (later k (cond (admitted s) (numbered o) 2) 1 n1 (tooLong m))
-      (iff-trans (iff-and (iff-not-lt 0x100_0000 (length m)) (later-else k (numbered o) 2 n2 (admitted s)))
-      (λ h. ((h .0, h .1 .0), h .1 .1), λ h. (h .0 .0, (h .0 .1, h .1)))))
+  pub checked-2 : (numbered o ≡ 2 → ⊥) → (numbered (checked s l o) ≡ 2) ↔ (Usable l × (admitted s ≡ false))
+  checked-2 n = iff-trans (checked-first 2 (λ h. omega arith) n) (first-2 s l)
+
+  -- a reply that none of them gives
+  pub checked-on : (k : ℕ) → (1 ≡ k → ⊥) → (2 ≡ k → ⊥) → (numbered (checked s l o) ≡ k) ↔ (Ready s l × (numbered o ≡ k))
+  checked-on k n1 n2 = rw checked-number (by (eqb first 0) refl (first-of s l))
+    where
+      by : (b : Bool) → eqb first 0 ≡ b → OneOf (0 ∷ 1 ∷ 2 ∷ []) first → (cond b (numbered o) first ≡ k) ↔ ((b ≡ true) × (numbered o ≡ k))
+      by true e w = (λ h. (refl, h), λ h. h .1)
+      by false e (inl z) = absurd (eqb-false first 0 e z)
+      by false e (inr (inl z)) = (λ h. absurd (n1 (sym z ∙ h)), λ h. absurd (false≢true (h .0)))
+      by false e (inr (inr (inl z))) = (λ h. absurd (n2 (sym z ∙ h)), λ h. absurd (false≢true (h .0)))
 
 -- ---- what an entry, a return and an instruction's action answer
 
--- the outcome is refused with 4 where one of the accesses l is not inside, and done otherwise
-abbrev pub Answers : List ℕ → List Access → Outcome → Type 0
-Answers m l o = numbered o ≡ cond (missed m l) 4 0
+-- the outcome is refused with the first fault of the accesses l, and done where there is none
+abbrev pub Answers : Memory → List Wanted → Outcome → Type 0
+Answers m l o = numbered o ≡ numberOr (accessAll m l) 0
 
-module _ (m : List ℕ) (l : List Access) (o : Outcome) (h : Answers m l o) where
+-- a fault is refused with 4
+pub zero-or-4 : (x : Stored) → (numberOr x 0 ≡ 0) ⊎ (numberOr x 0 ≡ 4)
+zero-or-4 Taken = inl refl
+zero-or-4 (NotTaken Out) = inr refl
+
+pub none-outside : (m : Memory) (l : List Wanted) → (numberOr (accessAll m l) 0 ≡ 0) ↔ (SomeOutside m l → ⊥)
+none-outside m l = (λ e h. omega (arith, e, some-outside m l .1 h), λ n. ⊎-elim (λ e. e) (λ e. absurd (n (some-outside m l .0 e))) (zero-or-4 (accessAll m l)))
+
+module _ (m : Memory) (l : List Wanted) (o : Outcome) (h : Answers m l o) where
   pub answers-4 : (numbered o ≡ 4) ↔ SomeOutside m l
-  answers-4 = rw h (iff-trans (here 4 0 (λ e. omega arith) (missed m l)) (missed-some m l))
+  answers-4 = rw h (some-outside m l)
 
   pub answers-0 : (numbered o ≡ 0) ↔ (SomeOutside m l → ⊥)
-  answers-0 = rw h (iff-trans (here-else 0 4 (λ e. omega arith) (missed m l)) (iff-not (missed m l) (missed-some m l)))
+  answers-0 = rw h (none-outside m l)
 
   pub answers-of : (ks : List ℕ) → OneOf ks 0 → OneOf ks 4 → OneOf ks (numbered o)
-  answers-of ks zero-in four-in = same-of ks h (either-of ks (missed m l) 4 0 four-in zero-in)
+  answers-of ks zero-in four-in = same-of ks h (⊎-elim (λ e. same-of ks e zero-in) (λ e. same-of ks e four-in) (zero-or-4 (accessAll m l)))
 
   pub answers-never : (k : ℕ) → (0 ≡ k → ⊥) → (4 ≡ k → ⊥) → numbered o ≡ k → ⊥
-  answers-never k n0 n4 e = neither (missed m l) 4 0 k n4 n0 (sym h ∙ e)
+  answers-never k n0 n4 e = ⊎-elim (λ z. n0 (sym z ∙ sym h ∙ e)) (λ z. n4 (sym z ∙ sym h ∙ e)) (zero-or-4 (accessAll m l))
 
-pub one-outside : (m : List ℕ) (a n : ℕ) → SomeOutside m (access a n ∷ []) ↔ Outside m a n
-one-outside m a n = (only, λ h. this h)
-  where
-    no-more : SomeOutside m [] → ⊥
-    no-more = elim [ ]
+module _ (m : Memory) (a n : ℕ) where
+  pub one-outside : SomeOutside m (wanted a n ∷ []) ↔ Outside m a n
+  one-outside = (only, λ h. this h)
+    where
+      no-more : SomeOutside m [] → ⊥
+      no-more = elim [ ]
 
-    only : SomeOutside m (access a n ∷ []) → Outside m a n
-    only (this h) = h
-    only (another h) = absurd (no-more h)
+      only : SomeOutside m (wanted a n ∷ []) → Outside m a n
+      only (this h) = h
+      only (another h) = absurd (no-more h)
 
-pub one-inside : (m : List ℕ) (a n : ℕ) → (SomeOutside m (access a n ∷ []) → ⊥) ↔ (a + n ≤ length m)
-one-inside m a n = (λ h. by-lt (length m) (a + n) (λ o. absurd (h (one-outside m a n .1 o))) (λ l. l), λ l h. absurd (omega (arith, one-outside m a n .0 h)))
+  pub one-inside : (SomeOutside m (wanted a n ∷ []) → ⊥) ↔ Inside m a n
+  one-inside = (λ h. by (access m a n) refl h, λ i h. taken-or-not Out (sym (ap taken (one-outside .0 h)) ∙ i))
+    where
+      by : (x : Access) → access m a n ≡ x → (SomeOutside m (wanted a n ∷ []) → ⊥) → taken x ≡ Taken
+      by (Here p) i h = refl
+      by (Not Out) i h = absurd (h (this i))
 
-module _ (given s : Cpu) (level : Level) (vector pc : ℕ) (m : List ℕ) where
+-- the number of what goes by an access: that of its fault, or of what comes after it
+module _ (given : Cpu) (m : Memory) where
+  number-accessing : (rest : Stored) (x : Access) (f : ℕ → Outcome) → ((at : ℕ) → numbered (f at) ≡ numberOr rest 0)
+      → numbered (accessing given m x f) ≡ numberOr (firstFault x rest) 0
+  unfolding refusal
+  number-accessing rest (Here at) f h = h at
+  number-accessing rest (Not x) f h = refl
+
+  number-loading : (rest : Stored) (z : Size) (x : Access) (f : ℕ → Outcome) → ((v : ℕ) → numbered (f v) ≡ numberOr rest 0)
+      → numbered (loading given m (found (storageOf m) z x) f) ≡ numberOr (firstFault x rest) 0
+  unfolding refusal
+  number-loading rest z (Here at) f h = h _
+  number-loading rest z (Not x) f h = refl
+
+  number-taking : (x : Stored) (o : Outcome) → numbered o ≡ 0 → numbered (taking given m x o) ≡ numberOr x 0
+  unfolding refusal
+  number-taking Taken o h = h
+  number-taking (NotTaken x) o h = refl
+
+  -- one number is stored, or read
+  pub store-answers : (a : ℕ) (z : Size) (o : Outcome) → numbered o ≡ 0 → Answers m (wanted a (bytes z) ∷ []) (taking given m (storing m a z) o)
+  unfolding storing
+  store-answers a z o h = number-taking (taken (access m a (bytes z))) o h ∙ by (access m a (bytes z))
+    where
+      by : (x : Access) → numberOr (taken x) 0 ≡ numberOr (firstFault x Taken) 0
+      by (Here at) = refl
+      by (Not x) = refl
+
+  pub load-answers : (a : ℕ) (z : Size) (f : ℕ → Outcome) → ((v : ℕ) → numbered (f v) ≡ 0) → Answers m (wanted a (bytes z) ∷ []) (loading given m (load m a z) f)
+  unfolding load
+  load-answers a z f h = number-loading Taken z (access m a (bytes z)) f h
+
+module _ (given s : Cpu) (level : Level) (vector pc : ℕ) (m : Memory) where
   -- A7 with the handler's status register
   abbrev pointer : ℕ
   pointer = addressOf (setSr (handling level (s .sr)) s .r) 7
 
   pub entered-answers : Answers m (entryAt s level vector) (entered given s level vector pc m)
-  unfolding entered refusal
+  unfolding entered
   entered-answers =
-      by (inside m (pcPlace pointer) 4) (inside m (framePlace pointer) 4) (inside m (vectorPlace (s .vbr) vector) 4)
-      (completed (handlerState (setSr (handling level (s .sr)) s) (framePlace pointer) (numberAt (framed m pointer vector (s .sr) pc) (vectorPlace (s .vbr) vector) Long)) vector (framed m pointer vector (s .sr) pc))
+      number-accessing given m _ (access m (pcPlace pointer) 4) _ λ high.
+      number-accessing given m _ (access m (framePlace pointer) 4) _ λ low.
+      number-accessing given m _ (access m (vectorPlace (s .vbr) vector) 4) _ λ table.
       refl
-    where
-      by : (a b c : Bool) (all : Outcome) → numbered all ≡ 0
-          → numbered (cond a (cond b (cond c all (unchanged given NotInside m)) (unchanged given NotInside m)) (unchanged given NotInside m))
-          ≡ cond (cond a (cond b (cond c false true) true) true) 4 0
-      by true true true all e = e
-      by true true false all e = refl
-      by true false c all e = refl
-      by false b c all e = refl
 
-module _ (given s : Cpu) (m : List ℕ) where
+module _ (given s : Cpu) (m : Memory) where
   pub left-answers : Answers m (returnAt s) (left given s m)
-  unfolding left refusal
-  left-answers = by (inside m (addressOf (s .r) 7) 4) (inside m (plus (addressOf (s .r) 7) 4) 4) _
-    where
-      by : (a b : Bool) (t : Cpu)
-          → numbered (cond a (cond b (completed t 0 m) (unchanged given NotInside m)) (unchanged given NotInside m)) ≡ cond (cond a (cond b false true) true) 4 0
-      by true true t = refl
-      by true false t = refl
-      by false b t = refl
+  unfolding left load
+  left-answers =
+      number-loading given m _ Long (access m (addressOf (s .r) 7) 4) _ λ w.
+      number-loading given m _ Long (access m (plus (addressOf (s .r) 7) 4) 4) _ λ pc.
+      refl
 
-  -- one access
-  pub one-answers : (a n : ℕ) (t : Cpu) (m′ : List ℕ) → Answers m (access a n ∷ []) (cond (inside m a n) (completed t 0 m′) (unchanged given NotInside m))
-  unfolding refusal
-  one-answers a n t m′ = by (inside m a n)
+  many-all : (n regs a : ℕ) → accessMany n m regs a ≡ accessAll m (manyLongs n regs a)
+  unfolding accessMany
+  many-all zero regs a = refl
+  many-all (suc n) regs a = by (eqb (regs % 2) 1) (many-all n (regs / 2) (plus a 4)) (many-all n (regs / 2) a)
     where
-      by : (b : Bool) → numbered (cond b (completed t 0 m′) (unchanged given NotInside m)) ≡ cond (cond b false true) 4 0
-      by true = refl
-      by false = refl
-
-  -- many
-  all-answers : (b c : Bool) → b ≡ cond c false true → (t : Cpu) (m′ : List ℕ) → numbered (cond b (completed t 0 m′) (unchanged given NotInside m)) ≡ cond c 4 0
-  unfolding refusal
-  all-answers b c e t m′ = rw e (by c)
-    where
-      by : (c : Bool) → numbered (cond (cond c false true) (completed t 0 m′) (unchanged given NotInside m)) ≡ cond c 4 0
-      by true = refl
-      by false = refl
-
-  many-missed : (n regs a : ℕ) → manyInside n m regs a ≡ cond (missed m (manyLongs n regs a)) false true
-  unfolding manyInside
-  many-missed zero regs a = refl
-  many-missed (suc n) regs a = by (eqb (regs % 2) 1) (many-missed n (regs / 2) (plus a 4)) (many-missed n (regs / 2) a)
-    where
-      one : (i : Bool) → manyInside n m (regs / 2) (plus a 4) ≡ cond (missed m (manyLongs n (regs / 2) (plus a 4))) false true
-          → cond i (manyInside n m (regs / 2) (plus a 4)) false ≡ cond (cond i (missed m (manyLongs n (regs / 2) (plus a 4))) true) false true
-      one true p = p
-      one false p = refl
-
-      by : (b : Bool) → manyInside n m (regs / 2) (plus a 4) ≡ cond (missed m (manyLongs n (regs / 2) (plus a 4))) false true
-          → manyInside n m (regs / 2) a ≡ cond (missed m (manyLongs n (regs / 2) a)) false true
-          → cond b (cond (inside m a 4) (manyInside n m (regs / 2) (plus a 4)) false) (manyInside n m (regs / 2) a)
-          ≡ cond (missed m (cond b (access a 4 ∷ manyLongs n (regs / 2) (plus a 4)) (manyLongs n (regs / 2) a))) false true
-      by true p q = one (inside m a 4) p
+      by : (b : Bool) → accessMany n m (regs / 2) (plus a 4) ≡ accessAll m (manyLongs n (regs / 2) (plus a 4))
+          → accessMany n m (regs / 2) a ≡ accessAll m (manyLongs n (regs / 2) a)
+          → cond b (firstFault (access m a 4) (accessMany n m (regs / 2) (plus a 4))) (accessMany n m (regs / 2) a)
+          ≡ accessAll m (cond b (wanted a 4 ∷ manyLongs n (regs / 2) (plus a 4)) (manyLongs n (regs / 2) a))
+      by true p q = ap (firstFault (access m a 4)) p
       by false p q = q
 
-  -- what an action answers: 4 where one of its accesses is not inside, else its own refusal, if it is one
-  act-number : (a : Action) → numbered (act given s a m) ≡ cond (missed m (leaves s a)) 4 (refusing a)
+  many-answers : (regs a : ℕ) (o : Outcome) → numbered o ≡ 0 → Answers m (manyLongs 16 regs a) (taking given m (accessMany 16 m regs a) o)
+  many-answers regs a o h = number-taking given m (accessMany 16 m regs a) o h ∙ ap (λ (x : Stored). numberOr x 0) (many-all 16 regs a)
+
+  -- what an action answers: the first fault of its accesses, else its own refusal, if it is one
+  act-number : (a : Action) → numbered (act given s a m) ≡ numberOr (accessAll m (leaves s a)) (refusing a)
   unfolding refusal statusPushed
   act-number Nothing = refl
-  act-number (Store a z v) = one-answers a (bytes z) _ _
-  act-number (StoreMany regs a) = all-answers _ (missed m (manyLongs 16 regs a)) (many-missed 16 regs a) _ _
-  act-number (LoadMany regs a) = all-answers _ (missed m (manyLongs 16 regs a)) (many-missed 16 regs a) _ _
+  act-number (Store a z v) = store-answers given m a z _ refl
+  act-number (StoreMany regs a) = many-answers regs a _ refl
+  act-number (LoadMany regs a) = many-answers regs a _ refl
   act-number (Enter vector pc) = entered-answers given s _ vector pc m
   act-number Return = left-answers
   act-number (Status v) = refl
   act-number (Stop v) = refl
-  act-number (PushStatus v) = one-answers (minus (addressOf (s .r) 7) 4) 4 _ _
+  act-number (PushStatus v) = store-answers given m (minus (addressOf (s .r) 7) 4) Long _ refl
   act-number Halt = refl
   act-number (Other v) = refl
   act-number (Accumulate i scale sub x y) = refl
@@ -265,74 +300,70 @@ module _ (given s : Cpu) (m : List ℕ) where
   act-number (ClearAcc i) = refl
   act-number (Refuse n) = refl
 
-pub perform-number : (s : Cpu) (c : Change) (m : List ℕ) → numbered (perform s c m) ≡ cond (missed m (leaves (applied s c) (c .action))) 4 (refusing (c .action))
+pub perform-number : (s : Cpu) (c : Change) (m : Memory) → numbered (perform s c m) ≡ numberOr (accessAll m (leaves (applied s c) (c .action))) (refusing (c .action))
 unfolding perform
 perform-number s c m = act-number s (applied s c) m (c .action)
 
-pub perform-5 : (s : Cpu) (m : List ℕ) → numbered (perform s notCarried m) ≡ 5
+pub perform-5 : (s : Cpu) (m : Memory) → numbered (perform s notCarried m) ≡ 5
 unfolding perform notCarried refuse refusal
 perform-5 s m = refl
 
 -- and that leaves no access
-pub left-by-5 : (s : Cpu) (m : List ℕ) → missed m (leaves (applied s notCarried) (notCarried .action)) ≡ false
+pub left-by-5 : (s : Cpu) (m : Memory) → accessAll m (leaves (applied s notCarried) (notCarried .action)) ≡ Taken
 unfolding notCarried refuse
 left-by-5 s m = refl
 
 -- ---- the vector that an outcome says: the action's, or 0 where it was refused
 
-module _ (given s : Cpu) (m : List ℕ) where
-  abbrev Says : ℕ → Outcome → Type 0
-  Says v o = numbered o ≡ 0 → o .stepped .vector ≡ v
+abbrev Says : ℕ → Outcome → Type 0
+Says v o = numbered o ≡ 0 → o .stepped .vector ≡ v
 
-  either-says : (v : ℕ) (b : Bool) (x y : Outcome) → Says v x → Says v y → Says v (cond b x y)
-  either-says v true x y p q = p
-  either-says v false x y p q = q
-
-  refused-says : (v : ℕ) → Says v (unchanged given NotInside m)
+module _ (given s : Cpu) (m : Memory) where
+  fault-says : (v : ℕ) (x : Fault) → Says v (unchanged given (faultReply x) m)
   unfolding refusal
-  refused-says v e = absurd (omega arith)
-
-  -- done where a test holds
-  tested-says : (b : Bool) (t : Cpu) (v : ℕ) (m′ : List ℕ) → Says v (cond b (completed t v m′) (unchanged given NotInside m))
-  tested-says b t v m′ = either-says v b (completed t v m′) (unchanged given NotInside m) (λ e. refl) (refused-says v)
+  fault-says v Out e = absurd (omega arith)
 
   entered-says : (level : Level) (vector pc : ℕ) → Says vector (entered given s level vector pc m)
   unfolding entered
   entered-says level vector pc =
       let sp : ℕ = pointer given s level vector pc m in
-      either-says vector (inside m (pcPlace sp) 4) _ (unchanged given NotInside m)
-      (either-says vector (inside m (framePlace sp) 4) _ (unchanged given NotInside m)
-      (tested-says (inside m (vectorPlace (s .vbr) vector) 4) _ vector _)
-      (refused-says vector))
-      (refused-says vector)
+      accessing-all (Says vector) given m (fault-says vector) (access m (pcPlace sp) 4) _ λ high.
+      accessing-all (Says vector) given m (fault-says vector) (access m (framePlace sp) 4) _ λ low.
+      accessing-all (Says vector) given m (fault-says vector) (access m (vectorPlace (s .vbr) vector) 4) _ λ table.
+      λ e. refl
 
   left-says : Says 0 (left given s m)
   unfolding left
   left-says =
-      either-says 0 (inside m (addressOf (s .r) 7) 4) _ (unchanged given NotInside m) (tested-says (inside m (plus (addressOf (s .r) 7) 4) 4) _ 0 m) (refused-says 0)
+      loading-all (Says 0) given m (fault-says 0) (load m (addressOf (s .r) 7) Long) _ λ w.
+      loading-all (Says 0) given m (fault-says 0) (load m (plus (addressOf (s .r) 7) 4) Long) _ λ pc.
+      λ e. refl
+
+  taking-says : (x : Stored) (o : Outcome) → o .stepped .vector ≡ 0 → Says 0 (taking given m x o)
+  taking-says x o h = taking-all (Says 0) given m (fault-says 0) x o (λ e. h)
 
   act-says : (a : Action) → Says (vectorOf a) (act given s a m)
   unfolding statusPushed refusal
-  act-says Nothing e = refl
-  act-says (Store a z v) e = tested-says (inside m a (bytes z)) _ 0 _ e
-  act-says (StoreMany regs a) e = tested-says (manyInside 16 m regs a) _ 0 _ e
-  act-says (LoadMany regs a) e = tested-says (manyInside 16 m regs a) _ 0 _ e
-  act-says (Enter vector pc) e = entered-says _ vector pc e
-  act-says Return e = left-says e
-  act-says (Status v) e = refl
-  act-says (Stop v) e = refl
-  act-says (PushStatus v) e = tested-says (inside m (minus (addressOf (s .r) 7) 4) 4) _ 0 _ e
-  act-says Halt e = refl
-  act-says (Other v) e = refl
-  act-says (Accumulate i scale sub x y) e = refl
-  act-says (SetAcc i v) e = refl
-  act-says (SetExt i v) e = refl
-  act-says (SetMacsr v) e = refl
-  act-says (SetMask v) e = refl
-  act-says (CopyAcc from to) e = refl
-  act-says (ClearAcc i) e = refl
-  act-says (Refuse n) e = refl
+  act-says Nothing = λ e. refl
+  act-says (Store a z v) = taking-says (storing m a z) _ refl
+  act-says (StoreMany regs a) = taking-says (accessMany 16 m regs a) _ refl
+  act-says (LoadMany regs a) = taking-says (accessMany 16 m regs a) _ refl
+  act-says (Enter vector pc) = entered-says _ vector pc
+  act-says Return = left-says
+  act-says (Status v) = λ e. refl
+  act-says (Stop v) = λ e. refl
+  act-says (PushStatus v) = taking-says (storing m (minus (addressOf (s .r) 7) 4) Long) _ refl
+  act-says Halt = λ e. refl
+  act-says (Other v) = λ e. refl
+  act-says (Accumulate i scale sub x y) = λ e. refl
+  act-says (SetAcc i v) = λ e. refl
+  act-says (SetExt i v) = λ e. refl
+  act-says (SetMacsr v) = λ e. refl
+  act-says (SetMask v) = λ e. refl
+  act-says (CopyAcc from to) = λ e. refl
+  act-says (ClearAcc i) = λ e. refl
+  act-says (Refuse n) = λ e. refl
 
-pub perform-says : (s : Cpu) (c : Change) (m : List ℕ) → numbered (perform s c m) ≡ 0 → perform s c m .stepped .vector ≡ vectorOf (c .action)
+pub perform-says : (s : Cpu) (c : Change) (m : Memory) → numbered (perform s c m) ≡ 0 → perform s c m .stepped .vector ≡ vectorOf (c .action)
 unfolding perform
-perform-says s c m e = act-says s (applied s c) m (c .action) e
+perform-says s c m = act-says s (applied s c) m (c .action)

@@ -10,10 +10,13 @@ use mathlib.Core.List.{List}
 use mathlib.Core.Logic.{_⊎_, ⊎-elim, inl, inr}
 use native.Mathlib.Omega.{arith}
 use lib.Dec.{eqb}
-use lib.ListN.{length, getD}
+use lib.ListN.{length}
 use Rattle.manual.specs.declared.Cpu.{Cpu}
-use Rattle.manual.specs.declared.Reply.{Reply}
-use Rattle.manual.specs.declared.Reply.the-variants.{Done, TooLong, NotAdmitted, Stopped, NotInside}
+use Rattle.manual.specs.declared.Reply.the-variants.{Done, Stopped}
+use Rattle.manual.specs.declared.Size.{Size}
+use Rattle.manual.specs.declared.Size.the-variants.{Long}
+use Rattle.manual.specs.declared.Access.{Access}
+use Rattle.manual.specs.declared.Access.the-variants.{Here, Not}
 use Rattle.manual.specs.declared.Level.{Level}
 use Rattle.manual.specs.declared.Level.the-variants.{Kept}
 use Rattle.manual.specs.declared.Action.{Action}
@@ -21,112 +24,129 @@ use Rattle.manual.specs.declared.Action.the-variants.{Nothing, Store, StoreMany
 use Rattle.manual.specs.declared.Change.{Change}
 use Rattle.manual.specs.Word.{bytes, plus, minus}
 use Rattle.manual.specs.Registers.{addressOf, general, applied}
-use Rattle.manual.specs.Memory.{inside, storeAt, manyInside, storedMany}
+use Rattle.manual.specs.Memory.{Storage, Memory, storageOf, storeAt, access, load, storing, storedIn, stored, accessMany, storedMany}
 use Rattle.manual.specs.Differences.{vectorPlace}
-use Rattle.manual.specs.Exceptions.{setSr, handling, pcPlace, framePlace, framed, entered, left}
-use Rattle.manual.specs.Reply.{isDone, Outcome, completed, unchanged}
-use Rattle.manual.specs.Admitted.{admitted, tooLong}
+use Rattle.manual.specs.Exceptions.{setSr, handling, pcPlace, framePlace, entered, left}
+use Rattle.manual.specs.Reply.{isDone, Outcome, unchanged}
+use Rattle.manual.specs.Lent.{Lent, memoryOf, lentOn, firstRefusal}
 use Rattle.instructions.specs.Perform.{statusPushed, act, perform}
 use Rattle.instructions.specs.Step.{execute, step}
 use Rattle.instructions.specs.Run.{RunOutcome, ended, afterOne, steps, run}
 use Rattle.memory.specs.MemoryLaws.{length-store}
+use Rattle.demands.specs.Exact.{Bytes, Ready}
+use Rattle.demands.specs.AccessLaws.{accessing-all, loading-all, taking-all}
 use Rattle.demands.specs.Refusals.{NotZero, is-done, is-not, step-kept}
 use Rattle.demands.specs.ValueLaws.{store-bytes}
 
--- n steps, all of them done, lead from s and m to s′ and m′
-pub data Steps : ℕ → Cpu → List ℕ → Cpu → List ℕ → Type 0 where
-  none : {s : Cpu} {m : List ℕ} → Steps 0 s m s m
-  one-more : {n : ℕ} {s s′ : Cpu} {m m′ : List ℕ} → step s m .stepped .reply ≡ Done
-      → Steps n (step s m .stepped .cpu) (step s m .memory) s′ m′ → Steps (suc n) s m s′ m′
+-- n steps, all of them done, lead from s and l to s′ and l′
+pub data Steps : ℕ → Cpu → Lent → Cpu → Lent → Type 0 where
+  none : {s : Cpu} {l : Lent} → Steps 0 s l s l
+  one-more : {n : ℕ} {s s′ : Cpu} {l l′ : Lent} → step s l .stepped .reply ≡ Done
+      → Steps n (step s l .stepped .cpu) (lentOn l (step s l .storage)) s′ l′ → Steps (suc n) s l s′ l′
 
 -- all were done, or the next one is refused, with the run's reply
-abbrev pub Ends : ℕ → RunOutcome → Type 0
-Ends budget r =
+abbrev pub Ends : ℕ → Lent → RunOutcome → Type 0
+Ends budget l r =
     ((r .ran .reply ≡ Done) × (r .ran .count ≡ budget))
-    ⊎ ((r .ran .count < budget) × (NotZero (r .ran .reply) × (step (r .ran .cpu) (r .memory) .stepped .reply ≡ r .ran .reply)))
+    ⊎ ((r .ran .count < budget) × (NotZero (r .ran .reply) × (step (r .ran .cpu) (lentOn l (r .storage)) .stepped .reply ≡ r .ran .reply)))
 
 pub record Runs : Type 0 where
-  pub too-long : (budget : ℕ) (s : Cpu) (m : List ℕ) → tooLong m ≡ true → run budget s m ≡ ended TooLong 0 s m
-  pub not-admitted : (budget : ℕ) (s : Cpu) (m : List ℕ) → tooLong m ≡ false → admitted s ≡ false → run budget s m ≡ ended NotAdmitted 0 s m
-  pub that-many : (budget : ℕ) (s : Cpu) (m : List ℕ) → Steps (run budget s m .ran .count) s m (run budget s m .ran .cpu) (run budget s m .memory)
-  pub as-long : (budget : ℕ) (s : Cpu) (m : List ℕ) → length (run budget s m .memory) ≡ length m
-  pub still-bytes : (budget : ℕ) (s : Cpu) (m : List ℕ) → ((j : ℕ) → getD m j 0 < 256) → (j : ℕ) → getD (run budget s m .memory) j 0 < 256
-  pub ends : (budget : ℕ) (s : Cpu) (m : List ℕ) → tooLong m ≡ false → admitted s ≡ true → Ends budget (run budget s m)
+  pub first : (budget : ℕ) (s : Cpu) (l : Lent) → isDone (firstRefusal s l) ≡ false → run budget s l ≡ ended (firstRefusal s l) 0 s (l .storage)
+  pub that-many : (budget : ℕ) (s : Cpu) (l : Lent) → Steps (run budget s l .ran .count) s l (run budget s l .ran .cpu) (lentOn l (run budget s l .storage))
+  pub as-long : (budget : ℕ) (s : Cpu) (l : Lent) → length (run budget s l .storage) ≡ length (l .storage)
+  pub still-bytes : (budget : ℕ) (s : Cpu) (l : Lent) → Bytes (l .storage) → Bytes (run budget s l .storage)
+  pub ends : (budget : ℕ) (s : Cpu) (l : Lent) → Ready s l → Ends budget l (run budget s l)
 
 -- ---- the proofs
 
-steps-many : (budget : ℕ) (s : Cpu) (m : List ℕ)
-    → Steps (steps budget s m .ran .count) s m (steps budget s m .ran .cpu) (steps budget s m .memory) × Ends budget (steps budget s m)
+-- a run r from s and l
+abbrev Ran : ℕ → Cpu → Lent → RunOutcome → Type 0
+Ran budget s l r = Steps (r .ran .count) s l (r .ran .cpu) (lentOn l (r .storage)) × Ends budget l r
+
+steps-many : (budget : ℕ) (s : Cpu) (l : Lent) → Ran budget s l (steps budget s l)
 unfolding steps
-steps-many zero s m = (none, inl (refl, refl))
-steps-many (suc left) s m = by (isDone (step s m .stepped .reply)) refl (steps-many left (step s m .stepped .cpu) (step s m .memory))
+steps-many zero s l = (none, inl (refl, refl))
+steps-many (suc left) s l = by (isDone (step s l .stepped .reply)) refl (steps-many left t l′)
   where
-    by : (b : Bool) → isDone (step s m .stepped .reply) ≡ b
-        → (let r : RunOutcome = steps left (step s m .stepped .cpu) (step s m .memory) in
-        Steps (r .ran .count) (step s m .stepped .cpu) (step s m .memory) (r .ran .cpu) (r .memory) × Ends left r)
-        → let r : RunOutcome = cond b (afterOne (steps left (step s m .stepped .cpu) (step s m .memory))) (ended (step s m .stepped .reply) 0 (step s m .stepped .cpu) (step s m .memory)) in
-        Steps (r .ran .count) s m (r .ran .cpu) (r .memory) × Ends (suc left) r
+    t : Cpu
+    t = step s l .stepped .cpu
+
+    l′ : Lent
+    l′ = lentOn l (step s l .storage)
+
+    by : (b : Bool) → isDone (step s l .stepped .reply) ≡ b → Ran left t l′ (steps left t l′)
+        → Ran (suc left) s l (cond b (afterOne (steps left t l′)) (ended (step s l .stepped .reply) 0 t (step s l .storage)))
     by true e ih = (
-      one-more (is-done _ e) (ih .0),
+      one-more (is-done (step s l .stepped .reply) e) (ih .0),
       ⊎-elim (λ h. inl (h .0, ap suc (h .1))) (λ h. inr (omega (arith, h .0), h .1)) (ih .1),
     )
     by false e ih =
-        let u : ((step s m .stepped .cpu ≡ s) × (step s m .memory ≡ m)) × (step s m .stepped .vector ≡ 0) = step-kept s m (is-not _ e) in
-        (rw (u .0 .0, u .0 .1) none, inr (omega arith, (is-not _ e, ap₂-step (u .0 .0) (u .0 .1))))
+        let u : ((t ≡ s) × (step s l .storage ≡ l .storage)) × (step s l .stepped .vector ≡ 0) = step-kept s l (is-not (step s l .stepped .reply) e) in
+        (rw (u .0 .0, u .0 .1) none, inr (omega arith, (is-not (step s l .stepped .reply) e, again (u .0 .0) (u .0 .1))))
       where
-        ap₂-step : {s′ : Cpu} {m′ : List ℕ} → s′ ≡ s → m′ ≡ m → step s′ m′ .stepped .reply ≡ step s m .stepped .reply
-        ap₂-step p q = cc
+        again : {s′ : Cpu} {b : Storage} → s′ ≡ s → b ≡ l .storage → step s′ (lentOn l b) .stepped .reply ≡ step s l .stepped .reply
+        again p q = rw (p, q)
 
--- ---- what every store keeps of memory, a step keeps, and so does a run
+-- ---- what every store keeps of storage, a step keeps, and so does a run
 
-module _ (K : List ℕ → Type 0) (keeps : (m : List ℕ) (a n v : ℕ) → K m → K (storeAt m a n v)) where
-  many-kept : (left : ℕ) (g : List ℕ) (n mask at : ℕ) (m : List ℕ) → K m → K (storedMany left g n mask at m)
+module _ (K : Storage → Type 0) (keeps : (b : Storage) (a n v : ℕ) → K b → K (storeAt b a n v)) where
+  stored-kept : (m : Memory) (a : ℕ) (z : Size) (v : ℕ) → K (storageOf m) → K (stored m a z v)
+  unfolding stored
+  stored-kept m a z v h = by (access m a (bytes z))
+    where
+      by : (x : Access) → K (storedIn (storageOf m) z v x)
+      by (Here at) = keeps (storageOf m) at (bytes z) v h
+      by (Not x) = h
+
+  many-kept : (left : ℕ) (g : List ℕ) (n mask at : ℕ) (m : Memory) → K (storageOf m) → K (storedMany left g n mask at m)
   unfolding storedMany
   many-kept zero g n mask at m h = h
   many-kept (suc left) g n mask at m h =
-      pick (eqb (mask % 2) 1) _ _ (many-kept left g (n + 1) (mask / 2) (plus at 4) _ (keeps m at 4 (general g n) h)) (many-kept left g (n + 1) (mask / 2) at m h)
+      pick (eqb (mask % 2) 1) _ _ (many-kept left g (n + 1) (mask / 2) (plus at 4) _ (stored-kept m at Long (general g n) h)) (many-kept left g (n + 1) (mask / 2) at m h)
     where
-      pick : (b : Bool) (x y : List ℕ) → K x → K y → K (cond b x y)
+      pick : (b : Bool) (x y : Storage) → K x → K y → K (cond b x y)
       pick true x y p q = p
       pick false x y p q = q
 
-  either-kept : (b : Bool) (x y : Outcome) → K (x .memory) → K (y .memory) → K (cond b x y .memory)
+  abbrev Keeps : Outcome → Type 0
+  Keeps o = K (o .storage)
+
+  either-kept : (b : Bool) (x y : Outcome) → Keeps x → Keeps y → Keeps (cond b x y)
   either-kept true x y p q = p
   either-kept false x y p q = q
 
-  module _ (given : Cpu) (m : List ℕ) (h : K m) where
-    tested-kept : (b : Bool) (t : Cpu) (n : ℕ) (m′ : List ℕ) (r : Reply) → K m′ → K (cond b (completed t n m′) (unchanged given r m) .memory)
-    tested-kept b t n m′ r e = either-kept b (completed t n m′) (unchanged given r m) e h
-
-    entered-kept : (s : Cpu) (level : Level) (vector pc : ℕ) → K (entered given s level vector pc m .memory)
+  module _ (given : Cpu) (m : Memory) (h : K (storageOf m)) where
+    entered-kept : (s : Cpu) (level : Level) (vector pc : ℕ) → Keeps (entered given s level vector pc m)
     unfolding entered
     entered-kept s level vector pc =
         let t : Cpu = setSr (handling level (s .sr)) s in
         let sp : ℕ = addressOf (t .r) 7 in
-        let place : ℕ = vectorPlace (s .vbr) vector in
-        either-kept (inside m (pcPlace sp) 4) _ (unchanged given NotInside m)
-        (either-kept (inside m (framePlace sp) 4) _ (unchanged given NotInside m)
-        (tested-kept (inside m place 4) _ vector (framed m sp vector (s .sr) pc) NotInside (keeps _ _ 4 _ (keeps m _ 4 pc h)))
-        h)
-        h
+        accessing-all Keeps given m (λ x. h) (access m (pcPlace sp) 4) _ λ high.
+        accessing-all Keeps given m (λ x. h) (access m (framePlace sp) 4) _ λ low.
+        accessing-all Keeps given m (λ x. h) (access m (vectorPlace (s .vbr) vector) 4) _ λ table.
+        keeps _ low 4 _ (keeps (storageOf m) high 4 pc h)
 
-    left-kept : (s : Cpu) → K (left given s m .memory)
+    left-kept : (s : Cpu) → Keeps (left given s m)
     unfolding left
     left-kept s =
         let sp : ℕ = addressOf (s .r) 7 in
-        either-kept (inside m sp 4) _ (unchanged given NotInside m) (tested-kept (inside m (plus sp 4) 4) _ 0 m NotInside h) h
+        loading-all Keeps given m (λ x. h) (load m sp Long) _ λ w.
+        loading-all Keeps given m (λ x. h) (load m (plus sp 4) Long) _ λ pc.
+        h
 
-    act-kept : (s : Cpu) (a : Action) → K (act given s a m .memory)
+    act-kept : (s : Cpu) (a : Action) → Keeps (act given s a m)
     unfolding statusPushed
     act-kept s Nothing = h
-    act-kept s (Store a z v) = tested-kept (inside m a (bytes z)) s 0 _ NotInside (keeps m a (bytes z) v h)
-    act-kept s (StoreMany mask a) = tested-kept (manyInside 16 m mask a) s 0 _ NotInside (many-kept 16 (s .r) 0 mask a m h)
-    act-kept s (LoadMany mask a) = tested-kept (manyInside 16 m mask a) _ 0 m NotInside h
+    act-kept s (Store a z v) = taking-all Keeps given m (λ x. h) (storing m a z) _ (stored-kept m a z v h)
+    act-kept s (StoreMany mask a) = taking-all Keeps given m (λ x. h) (accessMany 16 m mask a) _ (many-kept 16 (s .r) 0 mask a m h)
+    act-kept s (LoadMany mask a) = taking-all Keeps given m (λ x. h) (accessMany 16 m mask a) _ h
     act-kept s (Enter vector pc) = entered-kept s Kept vector pc
     act-kept s Return = left-kept s
     act-kept s (Status v) = h
     act-kept s (Stop v) = h
-    act-kept s (PushStatus v) = tested-kept (inside m (minus (addressOf (s .r) 7) 4) 4) _ 0 _ NotInside (keeps m _ 4 (s .sr) h)
+    act-kept s (PushStatus v) =
+        let sp : ℕ = minus (addressOf (s .r) 7) 4 in
+        taking-all Keeps given m (λ x. h) (storing m sp Long) _ (stored-kept m sp Long (s .sr) h)
     act-kept s Halt = h
     act-kept s (Other v) = h
     act-kept s (Accumulate i scale sub x y) = h
@@ -138,66 +158,59 @@ module _ (K : List ℕ → Type 0) (keeps : (m : List ℕ) (a n v : ℕ) → K m
     act-kept s (ClearAcc i) = h
     act-kept s (Refuse n) = h
 
-    step-memory : K (step given m .memory)
-    unfolding step perform
-    step-memory =
-        let c : Change = execute (given .r) (given .pc) (given .sr) (given .other) (given .emac) m in
-        either-kept (tooLong m) (unchanged given TooLong m) _ h
-        (either-kept (admitted given) _ (unchanged given NotAdmitted m)
-        (either-kept (given .stopped) (unchanged given Stopped m) _ h (act-kept (applied given c) (c .action)))
-        h)
+  step-storage : (s : Cpu) (l : Lent) → K (l .storage) → Keeps (step s l)
+  unfolding step perform
+  step-storage s l h =
+      let m : Memory = memoryOf l in
+      let c : Change = execute (s .r) (s .pc) (s .sr) (s .other) (s .emac) m in
+      either-kept (isDone (firstRefusal s l)) _ (unchanged s (firstRefusal s l) m)
+      (either-kept (s .stopped) (unchanged s Stopped m) _ h (act-kept s m h (applied s c) (c .action)))
+      h
 
-  steps-memory : (budget : ℕ) (s : Cpu) (m : List ℕ) → K m → K (steps budget s m .memory)
+  steps-storage : (budget : ℕ) (s : Cpu) (l : Lent) → K (l .storage) → K (steps budget s l .storage)
   unfolding steps
-  steps-memory zero s m h = h
-  steps-memory (suc left) s m h =
-      by (isDone (step s m .stepped .reply)) (steps left (step s m .stepped .cpu) (step s m .memory))
-      (steps-memory left (step s m .stepped .cpu) (step s m .memory) (step-memory s m h))
+  steps-storage zero s l h = h
+  steps-storage (suc left) s l h =
+      by (isDone (step s l .stepped .reply)) (steps left (step s l .stepped .cpu) (lentOn l (step s l .storage)))
+      (steps-storage left (step s l .stepped .cpu) (lentOn l (step s l .storage)) (step-storage s l h))
     where
-      by : (b : Bool) (r : RunOutcome) → K (r .memory) → K (cond b (afterOne r) (ended (step s m .stepped .reply) 0 (step s m .stepped .cpu) (step s m .memory)) .memory)
+      by : (b : Bool) (r : RunOutcome) → K (r .storage) → K (cond b (afterOne r) (ended (step s l .stepped .reply) 0 (step s l .stepped .cpu) (step s l .storage)) .storage)
       by true r a = a
-      by false r a = step-memory s m h
+      by false r a = step-storage s l h
 
-  run-memory : (budget : ℕ) (s : Cpu) (m : List ℕ) → K m → K (run budget s m .memory)
+  run-storage : (budget : ℕ) (s : Cpu) (l : Lent) → K (l .storage) → K (run budget s l .storage)
   unfolding run
-  run-memory budget s m h = by (tooLong m) (admitted s)
+  run-storage budget s l h = by (isDone (firstRefusal s l))
     where
-      by : (a b : Bool) → K (cond a (ended TooLong 0 s m) (cond b (steps budget s m) (ended NotAdmitted 0 s m)) .memory)
-      by true b = h
-      by false true = steps-memory budget s m h
-      by false false = h
+      by : (b : Bool) → K (cond b (steps budget s l) (ended (firstRefusal s l) 0 s (l .storage)) .storage)
+      by true = steps-storage budget s l h
+      by false = h
 
 -- ---- the tests before it
 
-run-too-long : (budget : ℕ) (s : Cpu) (m : List ℕ) → tooLong m ≡ true → run budget s m ≡ ended TooLong 0 s m
+run-first : (budget : ℕ) (s : Cpu) (l : Lent) → isDone (firstRefusal s l) ≡ false → run budget s l ≡ ended (firstRefusal s l) 0 s (l .storage)
 unfolding run
-run-too-long budget s m h = rw h
+run-first budget s l h = rw h
 
-run-not-admitted : (budget : ℕ) (s : Cpu) (m : List ℕ) → tooLong m ≡ false → admitted s ≡ false → run budget s m ≡ ended NotAdmitted 0 s m
+run-steps : (budget : ℕ) (s : Cpu) (l : Lent) → Ready s l → run budget s l ≡ steps budget s l
 unfolding run
-run-not-admitted budget s m h k = rw (h, k)
+run-steps budget s l h = rw h
 
-run-steps : (budget : ℕ) (s : Cpu) (m : List ℕ) → tooLong m ≡ false → admitted s ≡ true → run budget s m ≡ steps budget s m
+that-many : (budget : ℕ) (s : Cpu) (l : Lent) → Steps (run budget s l .ran .count) s l (run budget s l .ran .cpu) (lentOn l (run budget s l .storage))
 unfolding run
-run-steps budget s m h k = rw (h, k)
-
-many-by : (a b : Bool) (budget : ℕ) (s : Cpu) (m : List ℕ)
-    → let r : RunOutcome = cond a (ended TooLong 0 s m) (cond b (steps budget s m) (ended NotAdmitted 0 s m)) in
-    Steps (r .ran .count) s m (r .ran .cpu) (r .memory)
-many-by true b budget s m = none
-many-by false true budget s m = steps-many budget s m .0
-many-by false false budget s m = none
-
-that-many : (budget : ℕ) (s : Cpu) (m : List ℕ) → Steps (run budget s m .ran .count) s m (run budget s m .ran .cpu) (run budget s m .memory)
-unfolding run
-that-many budget s m = many-by (tooLong m) (admitted s) budget s m
+that-many budget s l = by (isDone (firstRefusal s l))
+  where
+    by : (b : Bool)
+        → let r : RunOutcome = cond b (steps budget s l) (ended (firstRefusal s l) 0 s (l .storage)) in
+        Steps (r .ran .count) s l (r .ran .cpu) (lentOn l (r .storage))
+    by true = steps-many budget s l .0
+    by false = none
 
 pub runs : Runs
 runs = record {
-  too-long = run-too-long;
-  not-admitted = run-not-admitted;
+  first = run-first;
   that-many = that-many;
-  as-long = λ budget s m. run-memory (λ m′. length m′ ≡ length m) (λ m′ a n v e. length-store m′ a n v ∙ e) budget s m refl;
-  still-bytes = λ budget s m. run-memory (λ m′. (j : ℕ) → getD m′ j 0 < 256) store-bytes budget s m;
-  ends = λ budget s m h k. rw (run-steps budget s m h k) (steps-many budget s m .1);
+  as-long = λ budget s l. run-storage (λ b. length b ≡ length (l .storage)) (λ b a n v e. length-store b a n v ∙ e) budget s l refl;
+  still-bytes = λ budget s l. run-storage Bytes store-bytes budget s l;
+  ends = λ budget s l h. rw (run-steps budget s l h) (steps-many budget s l .1);
 }

@@ -12,21 +12,27 @@ use Rattle.manual.specs.declared.Action.the-variants.{Enter, Return}
 use Rattle.manual.specs.declared.Change.{Change}
 use Rattle.manual.specs.declared.Level.the-variants.{Kept}
 use Rattle.manual.specs.declared.Size.the-variants.{Word}
-use Rattle.manual.specs.declared.Reply.{Reply}
-use Rattle.manual.specs.declared.Reply.the-variants.{Done, Stopped as Stop, NotInside}
+use Rattle.manual.specs.declared.Reply.the-variants.{Done, Stopped as Stop}
+use Rattle.manual.specs.declared.Fault.{Fault}
+use Rattle.manual.specs.declared.Access.{Access}
+use Rattle.manual.specs.declared.Access.the-variants.{Here, Not}
+use Rattle.manual.specs.declared.Stored.the-variants.{Done as Taken}
 use Rattle.manual.specs.Word.{plus}
 use Rattle.manual.specs.Flags.{keptCodes}
 use Rattle.manual.specs.Registers.{noWrite, written, withParts, withPc, coded, applied}
-use Rattle.manual.specs.Memory.{inside, numberAt, load}
+use Rattle.manual.specs.Memory.{Memory, access, taken, numberAt}
 use Rattle.manual.specs.Change.{acting, enterAfter, enter, refused, refuse}
-use Rattle.manual.specs.Reply.{Outcome, unchanged}
-use Rattle.manual.specs.Admitted.{admitted, tooLong}
+use Rattle.manual.specs.Reply.{Outcome, unchanged, faultReply}
+use Rattle.manual.specs.Lent.{Lent, memoryOf}
 use Rattle.manual.specs.Exceptions.{supervisor, entered, left}
 use Rattle.instructions.specs.Rows.{firstRow, rowOf, placeIn}
 use Rattle.instructions.specs.Line4.{line4, trap, rte}
 use Rattle.instructions.specs.Perform.{perform}
 use Rattle.instructions.specs.Step.{instruction, execute, step}
 use Rattle.rows.specs.TableLaws.{allBelow, below}
+use Rattle.demands.specs.Accesses.{Inside}
+use Rattle.demands.specs.Exact.{Ready}
+use Rattle.demands.specs.AccessLaws.{load-inside, load-not, fault-not}
 use Rattle.demands.specs.EntryLaws.{Open, opened, goes-on, not-passed, not-done}
 
 pub same-pc : (s : Cpu) → withPc (s .pc) s ≡ s
@@ -42,11 +48,11 @@ pub applied-acting : (s : Cpu) (next : ℕ) (a : Action) → applied s (acting (
 unfolding applied acting withParts withPc written noWrite
 applied-acting s next a = rw (coded-kept (s .sr))
 
-pub perform-enter : (s : Cpu) (vector pc : ℕ) (m : List ℕ) → perform s (enter (s .sr) vector pc) m ≡ entered s (withPc pc s) Kept vector pc m
+pub perform-enter : (s : Cpu) (vector pc : ℕ) (m : Memory) → perform s (enter (s .sr) vector pc) m ≡ entered s (withPc pc s) Kept vector pc m
 unfolding perform enter enterAfter acting
 perform-enter s vector pc m = rw (applied-acting s pc (Enter vector pc))
 
-pub perform-return : (s : Cpu) (next : ℕ) (m : List ℕ) → perform s (acting (s .sr) next noWrite Return) m ≡ left s (withPc next s) m
+pub perform-return : (s : Cpu) (next : ℕ) (m : Memory) → perform s (acting (s .sr) next noWrite Return) m ≡ left s (withPc next s) m
 unfolding perform acting
 perform-return s next m = rw (applied-acting s next Return)
 
@@ -63,7 +69,7 @@ rte-row : rowOf 0x4E73 ≡ firstRow 4 + 2
 unfolding rowOf
 rte-row = refl
 
-module _ (g : List ℕ) (at sr other : ℕ) (e : Emac) (m : List ℕ) where
+module _ (g : List ℕ) (at sr other : ℕ) (e : Emac) (m : Memory) where
   pub trap-word : (n : ℕ) → n < 16 → instruction g at sr other e m (0x4E40 + n) ≡ enter sr (32 + n) (plus at 2)
   unfolding instruction line4 placeIn trap
   trap-word n h =
@@ -76,70 +82,71 @@ module _ (g : List ℕ) (at sr other : ℕ) (e : Emac) (m : List ℕ) where
   rte-word h = rw (rte-row, h)
 
   -- the opcode word is fetched at the program counter
-  pub fetched : (op : ℕ) → inside m at 2 ≡ true → numberAt m at Word ≡ op → execute g at sr other e m ≡ instruction g at sr other e m op
-  unfolding execute load
-  fetched op h w = rw (h, w)
+  pub fetched : (op : ℕ) → Inside m at 2 → numberAt m at Word ≡ op → execute g at sr other e m ≡ instruction g at sr other e m op
+  unfolding execute
+  fetched op h w = rw (load-inside m at Word h, w)
 
-  pub not-fetched : inside m at 2 ≡ false → execute g at sr other e m ≡ refuse NotInside
-  unfolding execute load refused
-  not-fetched h = rw h
+  pub not-fetched : (x : Fault) → access m at 2 ≡ Not x → execute g at sr other e m ≡ refused x
+  unfolding execute
+  not-fetched x h = rw (load-not m at Word x h)
 
-pub perform-refuse : (s : Cpu) (n : Reply) (m : List ℕ) → perform s (refuse n) m ≡ unchanged s n m
-unfolding perform refuse
-perform-refuse s n m = refl
+pub perform-refused : (s : Cpu) (x : Fault) (m : Memory) → perform s (refused x) m ≡ unchanged s (faultReply x) m
+unfolding perform refused refuse
+perform-refused s x m = refl
 
 -- ---- a step that was done
 
 stopped-not : Stop ≡ Done → ⊥
 stopped-not e = let z : _≡_ {A = ℕ} 0 1 = cc in omega arith
 
-inside-not : NotInside ≡ Done → ⊥
-inside-not e = let z : _≡_ {A = ℕ} 0 1 = cc in omega arith
-
-abbrev pub doing : Cpu → List ℕ → Change
+abbrev pub doing : Cpu → Memory → Change
 doing s m = execute (s .r) (s .pc) (s .sr) (s .other) (s .emac) m
 
-fetched-by : (b : Bool) (s : Cpu) (m : List ℕ) → inside m (s .pc) 2 ≡ b → perform s (doing s m) m .stepped .reply ≡ Done → b ≡ true
-fetched-by true s m i e = refl
-fetched-by false s m i e =
+fetched-by : (x : Access) (s : Cpu) (m : Memory) → access m (s .pc) 2 ≡ x → perform s (doing s m) m .stepped .reply ≡ Done → taken x ≡ Taken
+fetched-by (Here at) s m i e = refl
+fetched-by (Not x) s m i e =
     absurd
-    (not-done NotInside inside-not s m
-    (rw (not-fetched (s .r) (s .pc) (s .sr) (s .other) (s .emac) m i, perform-refuse s NotInside m) at e))
+    (not-done (faultReply x) (fault-not x) s m
+    (rw (not-fetched (s .r) (s .pc) (s .sr) (s .other) (s .emac) m x i, perform-refused s x m) at e))
 
-pub record Stepped (s : Cpu) (m : List ℕ) : Type 0 where
-  pub short : tooLong m ≡ false
-  pub taken : admitted s ≡ true
-  pub fetch : inside m (s .pc) 2 ≡ true
-  pub same : step s m ≡ perform s (doing s m) m
+pub record Stepped (s : Cpu) (l : Lent) : Type 0 where
+  pub ready : Ready s l
+  pub fetch : Inside (memoryOf l) (s .pc) 2
+  pub same : step s l ≡ perform s (doing s (memoryOf l)) (memoryOf l)
 
-pub stepped : (s : Cpu) (m : List ℕ) → step s m .stepped .reply ≡ Done → Stepped s m
+pub stepped : (s : Cpu) (l : Lent) → step s l .stepped .reply ≡ Done → Stepped s l
 unfolding step
-stepped s m e =
+stepped s l e =
+    let m : Memory = memoryOf l in
     let p : Outcome = perform s (doing s m) m in
-    let w : Open s m (cond (s .stopped) (unchanged s Stop m) p) (step s m) = opened s m _ e in
+    let w : Open s l (cond (s .stopped) (unchanged s Stop m) p) (step s l) = opened s l _ e in
     let one : cond (s .stopped) (unchanged s Stop m) p ≡ p = not-passed (s .stopped) Stop stopped-not s m p (rw (w .same) at e) in
-    let i : inside m (s .pc) 2 ≡ true = fetched-by _ s m refl (rw (w .same, one) at e) in
-    record { short = w .short; taken = w .taken; fetch = i; same = w .same ∙ one }
+    let i : Inside m (s .pc) 2 = fetched-by (access m (s .pc) 2) s m refl (rw (w .same, one) at e) in
+    record { ready = w .ready; fetch = i; same = w .same ∙ one }
 
 second-of : (b : Bool) → b ≡ false → (x y : Outcome) → cond b x y ≡ y
 second-of b h x y = rw h
 
 -- a step that passes the tests before its fetch
-pub step-on : (s : Cpu) (m : List ℕ) → tooLong m ≡ false → admitted s ≡ true → s .stopped ≡ false → step s m ≡ perform s (doing s m) m
+pub step-on : (s : Cpu) (l : Lent) → Ready s l → s .stopped ≡ false → step s l ≡ perform s (doing s (memoryOf l)) (memoryOf l)
 unfolding step
-step-on s m short taken awake = goes-on s m _ short taken ∙ second-of (s .stopped) awake _ _
+step-on s l ready awake = goes-on s l _ ready ∙ second-of (s .stopped) awake _ _
 
 -- TRAP and RTE as steps
-pub step-trap : (s : Cpu) (m : List ℕ) (n : ℕ) → n < 16 → numberAt m (s .pc) Word ≡ 0x4E40 + n → Stepped s m
-    → step s m ≡ entered s (withPc (plus (s .pc) 2) s) Kept (32 + n) (plus (s .pc) 2) m
-step-trap s m n h w d =
-    d .same
-    ∙ ap (λ (c : Change). perform s c m) (fetched (s .r) (s .pc) (s .sr) (s .other) (s .emac) m (0x4E40 + n) (d .fetch) w ∙ trap-word (s .r) (s .pc) (s .sr) (s .other) (s .emac) m n h)
-    ∙ perform-enter s (32 + n) (plus (s .pc) 2) m
+module _ (s : Cpu) (l : Lent) where
+  abbrev m : Memory
+  m = memoryOf l
 
-pub step-rte : (s : Cpu) (m : List ℕ) → tooLong m ≡ false → admitted s ≡ true → s .stopped ≡ false → inside m (s .pc) 2 ≡ true
-    → numberAt m (s .pc) Word ≡ 0x4E73 → supervisor (s .sr) ≡ true → step s m ≡ left s (withPc (plus (s .pc) 2) s) m
-step-rte s m short taken awake i w h =
-    step-on s m short taken awake
-    ∙ ap (λ (c : Change). perform s c m) (fetched (s .r) (s .pc) (s .sr) (s .other) (s .emac) m 0x4E73 i w ∙ rte-word (s .r) (s .pc) (s .sr) (s .other) (s .emac) m h)
-    ∙ perform-return s (plus (s .pc) 2) m
+  pub step-trap : (n : ℕ) → n < 16 → numberAt m (s .pc) Word ≡ 0x4E40 + n → Stepped s l
+      → step s l ≡ entered s (withPc (plus (s .pc) 2) s) Kept (32 + n) (plus (s .pc) 2) m
+  step-trap n h w d =
+      d .same
+      ∙ ap (λ (c : Change). perform s c m) (fetched (s .r) (s .pc) (s .sr) (s .other) (s .emac) m (0x4E40 + n) (d .fetch) w ∙ trap-word (s .r) (s .pc) (s .sr) (s .other) (s .emac) m n h)
+      ∙ perform-enter s (32 + n) (plus (s .pc) 2) m
+
+  pub step-rte : Ready s l → s .stopped ≡ false → Inside m (s .pc) 2 → numberAt m (s .pc) Word ≡ 0x4E73 → supervisor (s .sr) ≡ true
+      → step s l ≡ left s (withPc (plus (s .pc) 2) s) m
+  step-rte ready awake i w h =
+      step-on s l ready awake
+      ∙ ap (λ (c : Change). perform s c m) (fetched (s .r) (s .pc) (s .sr) (s .other) (s .emac) m 0x4E73 i w ∙ rte-word (s .r) (s .pc) (s .sr) (s .other) (s .emac) m h)
+      ∙ perform-return s (plus (s .pc) 2) m

@@ -1,21 +1,27 @@
 -- When a step and a run give each reply. Assumes nothing.
-use Prim.Native.Nat.{ℕ, _+_, _/_, _%_, _≤_, _<_}
+use Prim.Native.Nat.{ℕ, _+_, _/_, _%_, _<_}
 use mathlib.Core.Path.{_≡_, refl, sym, ap, _∙_}
-use mathlib.Core.Bool.{Bool, true, false, cond, false≢true}
-use mathlib.Core.List.{List, [], _∷_}
+use mathlib.Core.Bool.{Bool, true, false, cond}
+use mathlib.Core.List.{List, [], _∷_, _++_}
 use mathlib.Core.Logic.{_↔_, _⊎_, ⊎-elim, inl, inr}
 use native.Mathlib.Omega.{arith}
 use lib.Dec.{T, eqb, eqb→eq}
-use lib.ListN.{length, getD}
 use Rattle.manual.specs.declared.Cpu.{Cpu}
 use Rattle.manual.specs.declared.Size.the-variants.{Word}
-use Rattle.manual.specs.declared.Reply.the-variants.{Stopped, NotInside}
+use Rattle.manual.specs.declared.Fault.{Fault}
+use Rattle.manual.specs.declared.Fault.the-variants.{Outside as Out}
+use Rattle.manual.specs.declared.Access.{Access}
+use Rattle.manual.specs.declared.Access.the-variants.{Here, Not}
+use Rattle.manual.specs.declared.Stored.{Stored}
+use Rattle.manual.specs.declared.Stored.the-variants.{Done as Taken, Fault as NotTaken}
+use Rattle.manual.specs.declared.Reply.the-variants.{Stopped}
 use Rattle.manual.specs.declared.Change.{Change}
 use Rattle.manual.specs.Registers.{applied}
-use Rattle.manual.specs.Memory.{inside, numberAt}
+use Rattle.manual.specs.Memory.{Memory, access, taken, numberAt}
 use Rattle.manual.specs.Change.{done, jump, notCarried}
-use Rattle.manual.specs.Reply.{numberOf, Outcome, unchanged, refusal}
+use Rattle.manual.specs.Reply.{numberOf, isDone, Outcome, unchanged, refusal}
 use Rattle.manual.specs.Admitted.{admitted}
+use Rattle.manual.specs.Lent.{Lent, memoryOf, lentOn, firstRefusal}
 use Rattle.rows.specs.TableLaws.{allBelow, below}
 use Rattle.instructions.specs.Rows.{firstRow, rowOf, placeIn}
 use Rattle.instructions.specs.Line0.{bitReverse, line0}
@@ -23,18 +29,19 @@ use Rattle.instructions.specs.Line4.{nothing, line4}
 use Rattle.instructions.specs.Perform.{perform}
 use Rattle.instructions.specs.Step.{instruction, step}
 use Rattle.instructions.specs.Run.{RunOutcome, run}
-use Rattle.word.specs.TestLaws.{by-lt}
-use Rattle.memory.specs.MemoryLaws.{value-lt}
+use Rattle.statusregister.specs.FirstLaws.{first-admitted, first-kept}
 use Rattle.demands.specs.Refusals.{done-is}
-use Rattle.demands.specs.Runs.{Ends, runs}
+use Rattle.demands.specs.Runs.{runs}
 use Rattle.demands.specs.Admits.{admits}
-use Rattle.demands.specs.Accesses.{Access, access, SomeOutside, reads0, reads4, reads, leaves, accesses}
-use Rattle.demands.specs.PartLaws.{missed, missed-some, missed-both, Made}
+use Rattle.demands.specs.Accesses.{Access, access, SomeOutside, reads0, reads4, reads, leaves, accesses, Wanted, wanted, Inside}
+use Rattle.demands.specs.PartLaws.{missed, missed-some, missed-both, Made, accessAll, numberOr, some-outside, past-inside, both, all-both}
 use Rattle.demands.specs.BodyLaws.{movecRead, movecWrite}
+use Rattle.demands.specs.AccessLaws.{word-lt}
+use Rattle.demands.specs.FirstReplies.{first-1, first-2, first-of}
 use Rattle.demands.specs.InstructionLaws.{Excused, instruction-made, excused-refused, movec-read, movec-write, mac-fits, mac-row}
-use Rattle.demands.specs.StepLaws.{doing, fetched, not-fetched, perform-refuse, Stepped, stepped}
+use Rattle.demands.specs.StepLaws.{doing, fetched, not-fetched, perform-refused, Stepped, stepped}
 use Rattle.demands.specs.ReplyLaws as laws
-use Rattle.demands.specs.Exact.{numbered, Ready, NotCarriedWord, line-8, movec, word-operand, vectorOf, OneOf}
+use Rattle.demands.specs.Exact.{numbered, Bytes, TooLong, Usable, Ready, NotCarriedWord, line-8, movec, word-operand, vectorOf, OneOf}
 
 -- ---- the words that are not carried
 
@@ -46,7 +53,7 @@ write-row : (op : ℕ) → op ≡ 0x4E7B → rowOf op ≡ movecWrite
 unfolding rowOf
 write-row op h = rw h
 
-kinds : (m : List ℕ) (at op : ℕ) → op < 0x1_0000 → Excused at m op ↔ NotCarriedWord m at op
+kinds : (m : Memory) (at op : ℕ) → op < 0x1_0000 → Excused at m op ↔ NotCarriedWord m at op
 kinds m at op small = (there, back)
   where
     there : Excused at m op → NotCarriedWord m at op
@@ -63,7 +70,10 @@ kinds m at op small = (there, back)
 
 -- ---- a step
 
-module _ (s : Cpu) (m : List ℕ) where
+module _ (s : Cpu) (l : Lent) where
+  abbrev m : Memory
+  m = memoryOf l
+
   abbrev acted : Outcome
   acted = perform s (doing s m) m
 
@@ -76,55 +86,60 @@ module _ (s : Cpu) (m : List ℕ) where
   abbrev changing : Change
   changing = instruction (s .r) (s .pc) (s .sr) (s .other) (s .emac) m op
 
-  -- 4 where an access is not inside, else 0; or 5, every access being inside
-  abbrev Kind : ℕ → Bool → Type 0
-  Kind n b = (n ≡ cond b 4 0) ⊎ ((n ≡ 5) × ((b ≡ false) × ((inside m (s .pc) 2 ≡ true) × Excused (s .pc) m op)))
+  -- the first fault of the accesses, x, if there is one; or 5, where there is none
+  abbrev Kind : ℕ → Stored → Type 0
+  Kind n x = (n ≡ numberOr x 0) ⊎ ((n ≡ 5) × ((x ≡ Taken) × (Inside m (s .pc) 2 × Excused (s .pc) m op)))
 
   -- once the word is fetched: its own reads, and what is then done
-  abbrev own : List Access
+  abbrev own : List Wanted
   own = reads (s .r) (s .pc) m op (s .emac .mask)
 
-  abbrev done-then : List Access
+  abbrev done-then : List Wanted
   done-then = leaves (applied s changing) (changing .action)
 
-  after-fetch : inside m (s .pc) 2 ≡ true → missed m (accesses s m) ≡ cond (missed m own) true (missed m done-then)
-  unfolding accesses
-  after-fetch i = rw i (missed-both m own done-then)
+  abbrev all : Stored
+  all = accessAll m (accesses s m)
 
-  no-fetch : inside m (s .pc) 2 ≡ false → missed m (accesses s m) ≡ true
+  after-fetch : Inside m (s .pc) 2 → all ≡ both (accessAll m own) (accessAll m done-then)
   unfolding accesses
-  no-fetch i = rw i
+  after-fetch i = past-inside m (s .pc) 2 (own ++ done-then) i ∙ all-both m own done-then
 
-  changing-kind : inside m (s .pc) 2 ≡ true → Kind (numbered (perform s changing m)) (missed m (accesses s m))
+  no-fetch : (x : Fault) → access m (s .pc) 2 ≡ Not x → all ≡ NotTaken x
+  unfolding accesses
+  no-fetch x i = rw i
+
+  changing-kind : Inside m (s .pc) 2 → Kind (numbered (perform s changing m)) all
   changing-kind i = rw (after-fetch i) (⊎-elim refused made (instruction-made (s .r) (s .pc) (s .sr) (s .other) (s .emac) m op))
     where
-      refused : Excused (s .pc) m op × ((changing ≡ notCarried) × (missed m own ≡ false)) → Kind (numbered (perform s changing m)) (cond (missed m own) true (missed m done-then))
+      refused : Excused (s .pc) m op × ((changing ≡ notCarried) × (accessAll m own ≡ Taken)) → Kind (numbered (perform s changing m)) (both (accessAll m own) (accessAll m done-then))
       refused h =
           inr (
             ap (λ (c : Change). numbered (perform s c m)) (h .1 .0) ∙ laws.perform-5 s m,
-            (ap (λ (x : Bool). cond x true (missed m done-then)) (h .1 .1) ∙ ap (λ (c : Change). missed m (leaves (applied s c) (c .action))) (h .1 .0) ∙ laws.left-by-5 s m, (i, h .0)),
+            (ap (λ (x : Stored). both x (accessAll m done-then)) (h .1 .1) ∙ ap (λ (c : Change). accessAll m (leaves (applied s c) (c .action))) (h .1 .0) ∙ laws.left-by-5 s m, (i, h .0)),
           )
 
-      both : (a b : Bool) (n : ℕ) → n ≡ cond a 4 0 → cond b 4 n ≡ cond (cond a true b) 4 0
-      both true true n e = refl
-      both true false n e = e
-      both false true n e = refl
-      both false false n e = e
+      after : (x y : Stored) (n : ℕ) → n ≡ numberOr x 0 → numberOr y n ≡ numberOr (both x y) 0
+      after Taken y n e = rw e
+      after (NotTaken x) Taken n e = e
+      after (NotTaken Out) (NotTaken Out) n e = refl
 
-      made : Made m own changing → Kind (numbered (perform s changing m)) (cond (missed m own) true (missed m done-then))
-      made h = inl (laws.perform-number s changing m ∙ both (missed m own) (missed m done-then) _ h)
+      made : Made m own changing → Kind (numbered (perform s changing m)) (both (accessAll m own) (accessAll m done-then))
+      made h = inl (laws.perform-number s changing m ∙ after (accessAll m own) (accessAll m done-then) _ h)
 
-  acted-kind : Kind (numbered acted) (missed m (accesses s m))
+  acted-kind : Kind (numbered acted) all
   unfolding refusal
-  acted-kind = by (inside m (s .pc) 2) refl
+  acted-kind = by (access m (s .pc) 2) refl
     where
-      by : (b : Bool) → inside m (s .pc) 2 ≡ b → Kind (numbered acted) (missed m (accesses s m))
-      by false i =
-          inl (ap (λ (c : Change). numbered (perform s c m)) (not-fetched (s .r) (s .pc) (s .sr) (s .other) (s .emac) m i) ∙ ap numbered (perform-refuse s NotInside m) ∙ rw (no-fetch i))
-      by true i = rw (fetched (s .r) (s .pc) (s .sr) (s .other) (s .emac) m op i refl) (changing-kind i)
+      by : (x : Access) → access m (s .pc) 2 ≡ x → Kind (numbered acted) all
+      by (Not x) i =
+          inl (ap (λ (c : Change). numbered (perform s c m)) (not-fetched (s .r) (s .pc) (s .sr) (s .other) (s .emac) m x i) ∙ ap numbered (perform-refused s x m) ∙ rw (no-fetch x i))
+      by (Here p) i =
+          let h : Inside m (s .pc) 2 = ap taken i in
+          rw (fetched (s .r) (s .pc) (s .sr) (s .other) (s .emac) m op h refl) (changing-kind h)
 
   acted-never : (k : ℕ) → (0 ≡ k → ⊥) → (4 ≡ k → ⊥) → (5 ≡ k → ⊥) → numbered acted ≡ k → ⊥
-  acted-never k n0 n4 n5 e = ⊎-elim (λ h. laws.neither (missed m (accesses s m)) 4 0 k n4 n0 (sym h ∙ e)) (λ h. n5 (sym (h .0) ∙ e)) acted-kind
+  acted-never k n0 n4 n5 e =
+      ⊎-elim (λ h. ⊎-elim (λ z. n0 (sym z ∙ sym h ∙ e)) (λ z. n4 (sym z ∙ sym h ∙ e)) (laws.zero-or-4 all)) (λ h. n5 (sym (h .0) ∙ e)) acted-kind
 
   inner-number : numbered inner ≡ cond (s .stopped) 3 (numbered acted)
   unfolding refusal
@@ -133,110 +148,107 @@ module _ (s : Cpu) (m : List ℕ) where
   inner-never : (k : ℕ) → (0 ≡ k → ⊥) → (3 ≡ k → ⊥) → (4 ≡ k → ⊥) → (5 ≡ k → ⊥) → numbered inner ≡ k → ⊥
   inner-never k n0 n3 n4 n5 e = laws.neither (s .stopped) 3 (numbered acted) k n3 (acted-never k n0 n4 n5) (sym inner-number ∙ e)
 
-  pub of-step-1 : (numbered (step s m) ≡ 1) ↔ (0x100_0000 < length m)
+  pub of-step-1 : (numbered (step s l) ≡ 1) ↔ TooLong l
   unfolding step
-  of-step-1 = laws.checked-1 s m inner (inner-never 1 (λ h. omega arith) (λ h. omega arith) (λ h. omega arith) (λ h. omega arith))
+  of-step-1 = laws.checked-1 s l inner (inner-never 1 (λ h. omega arith) (λ h. omega arith) (λ h. omega arith) (λ h. omega arith))
 
-  pub of-step-2 : (numbered (step s m) ≡ 2) ↔ ((length m ≤ 0x100_0000) × (admitted s ≡ false))
+  pub of-step-2 : (numbered (step s l) ≡ 2) ↔ (Usable l × (admitted s ≡ false))
   unfolding step
-  of-step-2 = laws.checked-2 s m inner (inner-never 2 (λ h. omega arith) (λ h. omega arith) (λ h. omega arith) (λ h. omega arith))
+  of-step-2 = laws.checked-2 s l inner (inner-never 2 (λ h. omega arith) (λ h. omega arith) (λ h. omega arith) (λ h. omega arith))
 
-  pub of-step-3 : (numbered (step s m) ≡ 3) ↔ (Ready s m × (s .stopped ≡ true))
+  pub of-step-3 : (numbered (step s l) ≡ 3) ↔ (Ready s l × (s .stopped ≡ true))
   unfolding step
   of-step-3 =
-      laws.iff-trans (laws.checked-on s m inner 3 (λ h. omega arith) (λ h. omega arith))
+      laws.iff-trans (laws.checked-on s l inner 3 (λ h. omega arith) (λ h. omega arith))
       (laws.iff-and laws.iff-same
       (rw inner-number (laws.here 3 (numbered acted) (acted-never 3 (λ h. omega arith) (λ h. omega arith) (λ h. omega arith)) (s .stopped))))
 
-  acted-5 : ((j : ℕ) → getD m j 0 < 256) → (numbered acted ≡ 5) ↔ ((s .pc + 2 ≤ length m) × NotCarriedWord m (s .pc) op)
-  acted-5 all = (there, back)
+  -- a fault is not 5
+  fault-not-5 : numberOr all 0 ≡ 5 → ⊥
+  fault-not-5 e = ⊎-elim (λ z. omega arith) (λ z. omega arith) (laws.zero-or-4 all)
+
+  acted-5 : Bytes (l .storage) → (numbered acted ≡ 5) ↔ (Inside m (s .pc) 2 × NotCarriedWord m (s .pc) op)
+  acted-5 bytes = (there, back)
     where
       small : op < 0x1_0000
-      small = value-lt m (s .pc) 2 all
+      small = word-lt m (s .pc) bytes
 
-      there : numbered acted ≡ 5 → (s .pc + 2 ≤ length m) × NotCarriedWord m (s .pc) op
+      there : numbered acted ≡ 5 → Inside m (s .pc) 2 × NotCarriedWord m (s .pc) op
       there e =
-          ⊎-elim (λ h. absurd (laws.neither (missed m (accesses s m)) 4 0 5 (λ x. omega arith) (λ x. omega arith) (sym h ∙ e)))
-          (λ h. (laws.iff-le _ _ .0 (h .1 .1 .0), kinds m (s .pc) op small .0 (h .1 .1 .1)))
-          acted-kind
+          ⊎-elim (λ h. absurd (fault-not-5 (sym h ∙ e))) (λ h. (h .1 .1 .0, kinds m (s .pc) op small .0 (h .1 .1 .1))) acted-kind
 
-      back : (s .pc + 2 ≤ length m) × NotCarriedWord m (s .pc) op → numbered acted ≡ 5
+      back : Inside m (s .pc) 2 × NotCarriedWord m (s .pc) op → numbered acted ≡ 5
       back h =
-          let i : inside m (s .pc) 2 ≡ true = laws.iff-le _ _ .1 (h .0) in
           ap (λ (c : Change). numbered (perform s c m))
-          (fetched (s .r) (s .pc) (s .sr) (s .other) (s .emac) m op i refl
+          (fetched (s .r) (s .pc) (s .sr) (s .other) (s .emac) m op (h .0) refl
           ∙ excused-refused (s .r) (s .pc) (s .sr) (s .other) (s .emac) m op small (kinds m (s .pc) op small .1 (h .1)))
           ∙ laws.perform-5 s m
 
-  pub of-step-5 : ((j : ℕ) → getD m j 0 < 256) → (numbered (step s m) ≡ 5) ↔ (Ready s m × ((s .stopped ≡ false) × ((s .pc + 2 ≤ length m) × NotCarriedWord m (s .pc) op)))
+  pub of-step-5 : Bytes (l .storage) → (numbered (step s l) ≡ 5) ↔ (Ready s l × ((s .stopped ≡ false) × (Inside m (s .pc) 2 × NotCarriedWord m (s .pc) op)))
   unfolding step
-  of-step-5 all =
-      laws.iff-trans (laws.checked-on s m inner 5 (λ h. omega arith) (λ h. omega arith))
+  of-step-5 bytes =
+      laws.iff-trans (laws.checked-on s l inner 5 (λ h. omega arith) (λ h. omega arith))
       (laws.iff-and laws.iff-same
-      (rw inner-number (laws.iff-trans (laws.later 5 (numbered acted) 3 (λ h. omega arith) (s .stopped)) (laws.iff-and laws.iff-same (acted-5 all)))))
+      (rw inner-number (laws.iff-trans (laws.later 5 (numbered acted) 3 (λ h. omega arith) (s .stopped)) (laws.iff-and laws.iff-same (acted-5 bytes)))))
 
   acted-4 : (numbered acted ≡ 4) ↔ SomeOutside m (accesses s m)
-  acted-4 = laws.iff-trans (by (missed m (accesses s m)) acted-kind) (missed-some m (accesses s m))
+  acted-4 = laws.iff-trans (by all acted-kind) (some-outside m (accesses s m))
     where
-      by : (b : Bool) → Kind (numbered acted) b → (numbered acted ≡ 4) ↔ (b ≡ true)
-      by b (inl h) = rw h (laws.here 4 0 (λ e. omega arith) b)
-      by b (inr h) = (λ e. absurd (omega (arith, sym (h .0) ∙ e)), λ e. absurd (false≢true (sym (h .1 .0) ∙ e)))
+      by : (x : Stored) → Kind (numbered acted) x → (numbered acted ≡ 4) ↔ (numberOr x 0 ≡ 4)
+      by x (inl h) = rw h laws.iff-same
+      by x (inr h) = (λ e. absurd (omega (arith, sym (h .0) ∙ e)), λ e. absurd (omega (arith, sym (ap (λ (y : Stored). numberOr y 0) (h .1 .0)) ∙ e)))
 
-  pub of-step-4 : (numbered (step s m) ≡ 4) ↔ (Ready s m × ((s .stopped ≡ false) × SomeOutside m (accesses s m)))
+  pub of-step-4 : (numbered (step s l) ≡ 4) ↔ (Ready s l × ((s .stopped ≡ false) × SomeOutside m (accesses s m)))
   unfolding step
   of-step-4 =
-      laws.iff-trans (laws.checked-on s m inner 4 (λ h. omega arith) (λ h. omega arith))
+      laws.iff-trans (laws.checked-on s l inner 4 (λ h. omega arith) (λ h. omega arith))
       (laws.iff-and laws.iff-same
       (rw inner-number (laws.iff-trans (laws.later 4 (numbered acted) 3 (λ h. omega arith) (s .stopped)) (laws.iff-and laws.iff-same acted-4))))
 
-  acted-0 : ((j : ℕ) → getD m j 0 < 256) → (numbered acted ≡ 0) ↔ ((SomeOutside m (accesses s m) → ⊥) × (NotCarriedWord m (s .pc) op → ⊥))
-  acted-0 all = (there, back)
+  acted-0 : Bytes (l .storage) → (numbered acted ≡ 0) ↔ ((SomeOutside m (accesses s m) → ⊥) × (NotCarriedWord m (s .pc) op → ⊥))
+  acted-0 bytes = (there, back)
     where
-      fetch-inside : (SomeOutside m (accesses s m) → ⊥) → s .pc + 2 ≤ length m
-      fetch-inside h = by-lt (length m) (s .pc + 2) (λ o. absurd (h (missed-some m (accesses s m) .0 (no-fetch (laws.iff-not-le _ _ .1 o))))) (λ l. l)
+      fetch-inside : (SomeOutside m (accesses s m) → ⊥) → Inside m (s .pc) 2
+      fetch-inside h = by (access m (s .pc) 2) refl
+        where
+          by : (x : Access) → access m (s .pc) 2 ≡ x → taken x ≡ Taken
+          by (Here p) i = refl
+          by (Not Out) i = absurd (h (some-outside m (accesses s m) .0 (rw (no-fetch Out i))))
 
       there : numbered acted ≡ 0 → (SomeOutside m (accesses s m) → ⊥) × (NotCarriedWord m (s .pc) op → ⊥)
       there e =
           let inside-all : SomeOutside m (accesses s m) → ⊥ = λ h. omega (arith, sym (acted-4 .1 h) ∙ e) in
-          (inside-all, λ w. omega (arith, sym (acted-5 all .1 (fetch-inside inside-all, w)) ∙ e))
-
-      none-missed : (b : Bool) → (b ≡ true → ⊥) → cond {A = ℕ} b 4 0 ≡ 0
-      none-missed true n = absurd (n refl)
-      none-missed false n = refl
+          (inside-all, λ w. omega (arith, sym (acted-5 bytes .1 (fetch-inside inside-all, w)) ∙ e))
 
       back : (SomeOutside m (accesses s m) → ⊥) × (NotCarriedWord m (s .pc) op → ⊥) → numbered acted ≡ 0
-      back h =
-          ⊎-elim
-          (λ k. k ∙ none-missed (missed m (accesses s m)) (λ e. h .0 (missed-some m (accesses s m) .0 e)))
-          (λ k. absurd (h .1 (acted-5 all .0 (k .0) .1)))
-          acted-kind
+      back h = ⊎-elim (λ k. k ∙ laws.none-outside m (accesses s m) .1 (h .0)) (λ k. absurd (h .1 (acted-5 bytes .0 (k .0) .1))) acted-kind
 
-  pub of-step-0 : ((j : ℕ) → getD m j 0 < 256)
-      → (numbered (step s m) ≡ 0) ↔ (Ready s m × ((s .stopped ≡ false) × ((SomeOutside m (accesses s m) → ⊥) × (NotCarriedWord m (s .pc) op → ⊥))))
+  pub of-step-0 : Bytes (l .storage)
+      → (numbered (step s l) ≡ 0) ↔ (Ready s l × ((s .stopped ≡ false) × ((SomeOutside m (accesses s m) → ⊥) × (NotCarriedWord m (s .pc) op → ⊥))))
   unfolding step
-  of-step-0 all =
-      laws.iff-trans (laws.checked-on s m inner 0 (λ h. omega arith) (λ h. omega arith))
+  of-step-0 bytes =
+      laws.iff-trans (laws.checked-on s l inner 0 (λ h. omega arith) (λ h. omega arith))
       (laws.iff-and laws.iff-same
-      (rw inner-number (laws.iff-trans (laws.later 0 (numbered acted) 3 (λ h. omega arith) (s .stopped)) (laws.iff-and laws.iff-same (acted-0 all)))))
+      (rw inner-number (laws.iff-trans (laws.later 0 (numbered acted) 3 (λ h. omega arith) (s .stopped)) (laws.iff-and laws.iff-same (acted-0 bytes)))))
 
-  pub of-vector : numbered (step s m) ≡ 0 → step s m .stepped .vector ≡ vectorOf (changing .action)
+  pub of-vector : numbered (step s l) ≡ 0 → step s l .stepped .vector ≡ vectorOf (changing .action)
   of-vector e =
-      let d : Stepped s m = stepped s m (done-is _ e) in
-      let same : step s m ≡ perform s changing m = d .same ∙ ap (λ (c : Change). perform s c m) (fetched (s .r) (s .pc) (s .sr) (s .other) (s .emac) m op (d .fetch) refl) in
+      let d : Stepped s l = stepped s l (done-is _ e) in
+      let same : step s l ≡ perform s changing m = d .same ∙ ap (λ (c : Change). perform s c m) (fetched (s .r) (s .pc) (s .sr) (s .other) (s .emac) m op (d .fetch) refl) in
       rw same (laws.perform-says s changing m (rw same at e))
 
-  pub of-step : OneOf (0 ∷ 1 ∷ 2 ∷ 3 ∷ 4 ∷ 5 ∷ []) (numbered (step s m))
+  pub of-step : OneOf (0 ∷ 1 ∷ 2 ∷ 3 ∷ 4 ∷ 5 ∷ []) (numbered (step s l))
   unfolding step
   of-step =
-      let l : List ℕ = 0 ∷ 1 ∷ 2 ∷ 3 ∷ 4 ∷ 5 ∷ [] in
-      let one : OneOf l (numbered acted) =
+      let ks : List ℕ = 0 ∷ 1 ∷ 2 ∷ 3 ∷ 4 ∷ 5 ∷ [] in
+      let one : OneOf ks (numbered acted) =
       ⊎-elim
-      (λ h. laws.same-of l h (laws.either-of l (missed m (accesses s m)) 4 0 (inr (inr (inr (inr (inl refl))))) (inl refl)))
-      (λ h. laws.same-of l (h .0) (inr (inr (inr (inr (inr (inl refl)))))))
+      (λ h. ⊎-elim (λ z. inl (h ∙ z)) (λ z. inr (inr (inr (inr (inl (h ∙ z)))))) (laws.zero-or-4 all))
+      (λ h. inr (inr (inr (inr (inr (inl (h .0)))))))
       acted-kind
       in
-      laws.checked-of s m inner l (inr (inl refl)) (inr (inr (inl refl)))
-      (laws.same-of l inner-number (laws.either-of l (s .stopped) 3 _ (inr (inr (inr (inl refl)))) one))
+      laws.checked-of s l inner ks (inr (inl refl)) (inr (inr (inl refl)))
+      (laws.same-of ks inner-number (laws.either-of ks (s .stopped) 3 _ (inr (inr (inr (inl refl)))) one))
 
 -- ---- the fetch alone
 
@@ -251,11 +263,11 @@ bitrev-rows = tt
 bitrev-row : (r : ℕ) → r < 8 → rowOf (0x00C0 + r) ≡ firstRow 0
 bitrev-row r h = eqb→eq _ _ (below (λ r. eqb (rowOf (0x00C0 + r)) (firstRow 0)) 8 bitrev-rows r h)
 
-pub of-nop : (s : Cpu) (m : List ℕ) → numberAt m (s .pc) Word ≡ 0x4E71 → accesses s m ≡ access (s .pc) 2 ∷ []
+pub of-nop : (s : Cpu) (m : Memory) → numberAt m (s .pc) Word ≡ 0x4E71 → accesses s m ≡ wanted (s .pc) 2 ∷ []
 unfolding accesses reads reads4 instruction line4 nothing jump done placeIn
 of-nop s m e = rw (e, nop-row)
 
-pub of-bitrev : (s : Cpu) (m : List ℕ) (r : ℕ) → r < 8 → numberAt m (s .pc) Word ≡ 0x00C0 + r → accesses s m ≡ access (s .pc) 2 ∷ []
+pub of-bitrev : (s : Cpu) (m : Memory) (r : ℕ) → r < 8 → numberAt m (s .pc) Word ≡ 0x00C0 + r → accesses s m ≡ wanted (s .pc) 2 ∷ []
 unfolding accesses reads reads0 instruction line0 bitReverse done placeIn
 of-bitrev s m r h e =
     let line : (0x00C0 + r) / 0x1000 % 16 ≡ 0 = omega arith in
@@ -263,107 +275,108 @@ of-bitrev s m r h e =
 
 -- ---- a run
 
-module _ (budget : ℕ) (s : Cpu) (m : List ℕ) where
+module _ (budget : ℕ) (s : Cpu) (l : Lent) where
   abbrev ran : RunOutcome
-  ran = run budget s m
+  ran = run budget s l
 
   abbrev number : ℕ
   number = numberOf (ran .ran .reply)
 
+  -- what is lent where it leaves off
+  abbrev l′ : Lent
+  l′ = lentOn l (ran .storage)
+
   -- where a run that was let begin leaves off
-  ready-after : Ready s m → Ready (ran .ran .cpu) (ran .memory)
-  ready-after h = (rw (runs .as-long budget s m) (h .0), admits .by-run budget s m (h .1))
+  ready-after : Ready s l → Ready (ran .ran .cpu) l′
+  ready-after h = first-kept s (ran .ran .cpu) l (ran .storage) (runs .as-long budget s l) (admits .by-run budget s l (first-admitted s l h)) h
 
-  -- not 1 or 2 then
-  not-before : Ready s m → (number ≡ 1 → ⊥) × (number ≡ 2 → ⊥)
-  not-before h =
-      ⊎-elim
-      (λ d. ((λ e. omega (arith, sym (ap numberOf (d .0)) ∙ e)), (λ e. omega (arith, sym (ap numberOf (d .0)) ∙ e))))
-      (λ d. (
-        (λ e. let l : 0x100_0000 < length (ran .memory) = of-step-1 (ran .ran .cpu) (ran .memory) .0 (ap numberOf (d .1 .1) ∙ e) in omega (arith, ready-after h .0)),
-        (λ e. false≢true (sym (of-step-2 (ran .ran .cpu) (ran .memory) .0 (ap numberOf (d .1 .1) ∙ e) .1) ∙ ready-after h .1)),
-      ))
-      (runs .ends budget s m (laws.iff-not-lt 0x100_0000 (length m) .1 (h .0)) (h .1))
+  -- a run that is not let begin gives the first refusal
+  number-first : isDone (firstRefusal s l) ≡ false → number ≡ numberOf (firstRefusal s l)
+  number-first h = ap (λ (r : RunOutcome). numberOf (r .ran .reply)) (runs .first budget s l h)
 
-  given-1 : 0x100_0000 < length m → number ≡ 1
-  given-1 h = ap (λ (r : RunOutcome). numberOf (r .ran .reply)) (runs .too-long budget s m (laws.iff-lt 0x100_0000 (length m) .1 h))
+  -- where it leaves off there is none
+  not-first : Ready s l → (k : ℕ) → (0 ≡ k → ⊥) → numberOf (firstRefusal (ran .ran .cpu) l′) ≡ k → ⊥
+  not-first h k z f = z (sym (laws.iff-eq (numberOf (firstRefusal (ran .ran .cpu) l′)) 0 .0 (ready-after h)) ∙ f)
 
-  given-2 : length m ≤ 0x100_0000 → admitted s ≡ false → number ≡ 2
-  given-2 h k = ap (λ (r : RunOutcome). numberOf (r .ran .reply)) (runs .not-admitted budget s m (laws.iff-not-lt 0x100_0000 (length m) .1 h) k)
-
-  -- one of the three
-  which {ℓ} : {P : Type ℓ} → (0x100_0000 < length m → P) → (length m ≤ 0x100_0000 → admitted s ≡ false → P) → (Ready s m → P) → P
-  which {P = P} one two three = by-lt 0x100_0000 (length m) one (λ l. at (admitted s) refl l)
+  -- so a reply that a step gives for a first refusal alone is the run's for the first refusal before it
+  begins : (k : ℕ) → (0 ≡ k → ⊥) → (numbered (step (ran .ran .cpu) l′) ≡ k → numberOf (firstRefusal (ran .ran .cpu) l′) ≡ k)
+      → (number ≡ k) ↔ (numberOf (firstRefusal s l) ≡ k)
+  begins k z at-step = by (isDone (firstRefusal s l)) refl
     where
-      at : (b : Bool) → admitted s ≡ b → length m ≤ 0x100_0000 → P
-      at true e l = three (l, e)
-      at false e l = two l e
+      by : (b : Bool) → isDone (firstRefusal s l) ≡ b → (number ≡ k) ↔ (numberOf (firstRefusal s l) ≡ k)
+      by false e = rw (number-first e) laws.iff-same
+      by true e = (
+        λ h. absurd (⊎-elim (λ d. z (sym (ap numberOf (d .0)) ∙ h)) (λ d. not-first e k z (at-step (ap numberOf (d .1 .1) ∙ h))) (runs .ends budget s l e)),
+        λ h. absurd (z (sym (laws.iff-eq (numberOf (firstRefusal s l)) 0 .0 e) ∙ h)),
+      )
 
-  pub of-run-1 : (number ≡ 1) ↔ (0x100_0000 < length m)
-  of-run-1 = (λ e. which (λ h. h) (λ h k. absurd (clash (given-2 h k) e)) (λ h. absurd (not-before h .0 e)), given-1)
-    where
-      clash : number ≡ 2 → number ≡ 1 → ⊥
-      clash a b = omega arith
+  pub of-run-1 : (number ≡ 1) ↔ TooLong l
+  of-run-1 = laws.iff-trans (begins 1 (λ h. omega arith) (λ e. first-1 (ran .ran .cpu) l′ .1 (of-step-1 (ran .ran .cpu) l′ .0 e))) (first-1 s l)
 
-  pub of-run-2 : (number ≡ 2) ↔ ((length m ≤ 0x100_0000) × (admitted s ≡ false))
-  of-run-2 = (λ e. which (λ h. absurd (clash (given-1 h) e)) (λ h k. (h, k)) (λ h. absurd (not-before h .1 e)), λ h. given-2 (h .0) (h .1))
+  pub of-run-2 : (number ≡ 2) ↔ (Usable l × (admitted s ≡ false))
+  of-run-2 = laws.iff-trans (begins 2 (λ h. omega arith) (λ e. first-2 (ran .ran .cpu) l′ .1 (of-step-2 (ran .ran .cpu) l′ .0 e))) (first-2 s l)
+
+  -- a reply that is none of the first refusals says that the run was let begin
+  let-begin : (k : ℕ) → (1 ≡ k → ⊥) → (2 ≡ k → ⊥) → number ≡ k → Ready s l
+  let-begin k n1 n2 e = by (isDone (firstRefusal s l)) refl (first-of s l)
     where
-      clash : number ≡ 1 → number ≡ 2 → ⊥
-      clash a b = omega arith
+      by : (b : Bool) → isDone (firstRefusal s l) ≡ b → OneOf (0 ∷ 1 ∷ 2 ∷ []) (numberOf (firstRefusal s l)) → b ≡ true
+      by true d w = refl
+      by false d (inl z) = absurd (laws.iff-not-eq (numberOf (firstRefusal s l)) 0 .0 d z)
+      by false d (inr (inl z)) = absurd (n1 (sym z ∙ sym (number-first d) ∙ e))
+      by false d (inr (inr (inl z))) = absurd (n2 (sym z ∙ sym (number-first d) ∙ e))
 
   -- any other refusal is that of the step where it leaves off
   of-run-step : (k : ℕ) → (0 ≡ k → ⊥) → (1 ≡ k → ⊥) → (2 ≡ k → ⊥) → {X : Type 0}
-      → (numbered (step (ran .ran .cpu) (ran .memory)) ≡ k) ↔ (Ready (ran .ran .cpu) (ran .memory) × X)
-      → (number ≡ k) ↔ (Ready s m × ((ran .ran .count < budget) × X))
+      → (numbered (step (ran .ran .cpu) l′) ≡ k) ↔ (Ready (ran .ran .cpu) l′ × X)
+      → (number ≡ k) ↔ (Ready s l × ((ran .ran .count < budget) × X))
   of-run-step k n0 n1 n2 {X} at-step = (there, back)
     where
-      at-end : Ready s m → Ends budget ran
-      at-end h = runs .ends budget s m (laws.iff-not-lt 0x100_0000 (length m) .1 (h .0)) (h .1)
-
-      there : number ≡ k → Ready s m × ((ran .ran .count < budget) × X)
+      there : number ≡ k → Ready s l × ((ran .ran .count < budget) × X)
       there e =
-          which (λ h. absurd (n1 (sym (given-1 h) ∙ e))) (λ h j. absurd (n2 (sym (given-2 h j) ∙ e)))
-          (λ h. ⊎-elim (λ d. absurd (n0 (sym (ap numberOf (d .0)) ∙ e))) (λ d. (h, (d .0, at-step .0 (ap numberOf (d .1 .1) ∙ e) .1))) (at-end h))
+          let h : Ready s l = let-begin k n1 n2 e in
+          ⊎-elim (λ d. absurd (n0 (sym (ap numberOf (d .0)) ∙ e))) (λ d. (h, (d .0, at-step .0 (ap numberOf (d .1 .1) ∙ e) .1))) (runs .ends budget s l h)
 
-      back : Ready s m × ((ran .ran .count < budget) × X) → number ≡ k
+      back : Ready s l × ((ran .ran .count < budget) × X) → number ≡ k
       back h =
           ⊎-elim (λ d. absurd (omega (arith, d .1, h .1 .0)))
           (λ d. sym (ap numberOf (d .1 .1)) ∙ at-step .1 (ready-after (h .0), h .1 .1))
-          (at-end (h .0))
+          (runs .ends budget s l (h .0))
 
-  pub of-run-3 : (number ≡ 3) ↔ (Ready s m × ((ran .ran .count < budget) × (ran .ran .cpu .stopped ≡ true)))
-  of-run-3 = of-run-step 3 (λ h. omega arith) (λ h. omega arith) (λ h. omega arith) (of-step-3 (ran .ran .cpu) (ran .memory))
+  pub of-run-3 : (number ≡ 3) ↔ (Ready s l × ((ran .ran .count < budget) × (ran .ran .cpu .stopped ≡ true)))
+  of-run-3 = of-run-step 3 (λ h. omega arith) (λ h. omega arith) (λ h. omega arith) (of-step-3 (ran .ran .cpu) l′)
 
   pub of-run-4 : (number ≡ 4)
-      ↔ (Ready s m × ((ran .ran .count < budget) × ((ran .ran .cpu .stopped ≡ false) × SomeOutside (ran .memory) (accesses (ran .ran .cpu) (ran .memory)))))
-  of-run-4 = of-run-step 4 (λ h. omega arith) (λ h. omega arith) (λ h. omega arith) (of-step-4 (ran .ran .cpu) (ran .memory))
+      ↔ (Ready s l × ((ran .ran .count < budget) × ((ran .ran .cpu .stopped ≡ false) × SomeOutside (memoryOf l′) (accesses (ran .ran .cpu) (memoryOf l′)))))
+  of-run-4 = of-run-step 4 (λ h. omega arith) (λ h. omega arith) (λ h. omega arith) (of-step-4 (ran .ran .cpu) l′)
 
-  pub of-run-5 : ((j : ℕ) → getD m j 0 < 256)
+  pub of-run-5 : Bytes (l .storage)
       → let pc : ℕ = ran .ran .cpu .pc in
+      let m : Memory = memoryOf l′ in
       (number ≡ 5)
-      ↔ (Ready s m
-      × ((ran .ran .count < budget) × ((ran .ran .cpu .stopped ≡ false) × ((pc + 2 ≤ length (ran .memory)) × NotCarriedWord (ran .memory) pc (numberAt (ran .memory) pc Word)))))
-  of-run-5 all = of-run-step 5 (λ h. omega arith) (λ h. omega arith) (λ h. omega arith) (of-step-5 (ran .ran .cpu) (ran .memory) (runs .still-bytes budget s m all))
+      ↔ (Ready s l × ((ran .ran .count < budget) × ((ran .ran .cpu .stopped ≡ false) × (Inside m pc 2 × NotCarriedWord m pc (numberAt m pc Word)))))
+  of-run-5 bytes = of-run-step 5 (λ h. omega arith) (λ h. omega arith) (λ h. omega arith) (of-step-5 (ran .ran .cpu) l′ (runs .still-bytes budget s l bytes))
 
-  pub of-run-0 : (number ≡ 0) ↔ (Ready s m × (ran .ran .count ≡ budget))
+  pub of-run-0 : (number ≡ 0) ↔ (Ready s l × (ran .ran .count ≡ budget))
   of-run-0 = (there, back)
     where
-      at-end : Ready s m → Ends budget ran
-      at-end h = runs .ends budget s m (laws.iff-not-lt 0x100_0000 (length m) .1 (h .0)) (h .1)
-
-      there : number ≡ 0 → Ready s m × (ran .ran .count ≡ budget)
+      there : number ≡ 0 → Ready s l × (ran .ran .count ≡ budget)
       there e =
-          which (λ h. absurd (omega (arith, sym (given-1 h) ∙ e))) (λ h k. absurd (omega (arith, sym (given-2 h k) ∙ e)))
-          (λ h. (h, ⊎-elim (λ d. d .1) (λ d. absurd (d .1 .0 e)) (at-end h)))
+          let h : Ready s l = let-begin 0 (λ z. omega arith) (λ z. omega arith) e in
+          (h, ⊎-elim (λ d. d .1) (λ d. absurd (d .1 .0 e)) (runs .ends budget s l h))
 
-      back : Ready s m × (ran .ran .count ≡ budget) → number ≡ 0
-      back h = ⊎-elim (λ d. ap numberOf (d .0)) (λ d. absurd (omega (arith, d .0, h .1))) (at-end (h .0))
+      back : Ready s l × (ran .ran .count ≡ budget) → number ≡ 0
+      back h = ⊎-elim (λ d. ap numberOf (d .0)) (λ d. absurd (omega (arith, d .0, h .1))) (runs .ends budget s l (h .0))
 
   pub of-run : OneOf (0 ∷ 1 ∷ 2 ∷ 3 ∷ 4 ∷ 5 ∷ []) number
-  of-run =
-      let l : List ℕ = 0 ∷ 1 ∷ 2 ∷ 3 ∷ 4 ∷ 5 ∷ [] in
-      which (λ h. laws.same-of l (given-1 h) (inr (inl refl))) (λ h k. laws.same-of l (given-2 h k) (inr (inr (inl refl))))
-      (λ h. ⊎-elim
-      (λ d. laws.same-of l (ap numberOf (d .0)) (inl refl))
-      (λ d. laws.same-of l (sym (ap numberOf (d .1 .1))) (of-step (ran .ran .cpu) (ran .memory)))
-      (runs .ends budget s m (laws.iff-not-lt 0x100_0000 (length m) .1 (h .0)) (h .1)))
+  of-run = by (isDone (firstRefusal s l)) refl (first-of s l)
+    where
+      by : (b : Bool) → isDone (firstRefusal s l) ≡ b → OneOf (0 ∷ 1 ∷ 2 ∷ []) (numberOf (firstRefusal s l)) → OneOf (0 ∷ 1 ∷ 2 ∷ 3 ∷ 4 ∷ 5 ∷ []) number
+      by true d w =
+          ⊎-elim
+          (λ x. inl (ap numberOf (x .0)))
+          (λ x. laws.same-of (0 ∷ 1 ∷ 2 ∷ 3 ∷ 4 ∷ 5 ∷ []) (sym (ap numberOf (x .1 .1))) (of-step (ran .ran .cpu) l′))
+          (runs .ends budget s l d)
+      by false d (inl z) = inl (number-first d ∙ z)
+      by false d (inr (inl z)) = inr (inl (number-first d ∙ z))
+      by false d (inr (inr (inl z))) = inr (inr (inl (number-first d ∙ z)))
