@@ -1,9 +1,8 @@
 //! Finds the archive `libharness.a` and the original's text.
 //!
 //! `HARNESS_LIB` is the folder of the archive (default: target/staticlib of the repository, where
-//! `rt staticlib harness` puts it). `ORACLE_CPU_RS` is the original's cpu.rs (default:
-//! ../shared/docs/src/cpu.rs beside the repository, then /work/shared/docs/src/cpu.rs). The text is
-//! compiled where it lies and never copied.
+//! `rt staticlib harness` puts it). `ORIGINAL` is the folder of the original's cpu.rs (default:
+//! ../shared/docs/src, beside the repository). The text is compiled where it lies and never copied.
 
 use std::env;
 use std::fs;
@@ -11,7 +10,7 @@ use std::path::{Path, PathBuf};
 
 fn main() {
     println!("cargo:rerun-if-env-changed=HARNESS_LIB");
-    println!("cargo:rerun-if-env-changed=ORACLE_CPU_RS");
+    println!("cargo:rerun-if-env-changed=ORIGINAL");
     println!("cargo:rustc-check-cfg=cfg(original)");
     let here = PathBuf::from(env::var("CARGO_MANIFEST_DIR").unwrap());
     let root = here.parent().unwrap().to_path_buf();
@@ -29,14 +28,11 @@ fn main() {
     println!("cargo:rustc-link-search=native={}", folder.display());
     println!("cargo:rustc-link-lib=static=harness");
 
-    let places: Vec<PathBuf> = match env::var("ORACLE_CPU_RS") {
-        Ok(given) => vec![PathBuf::from(given)],
-        Err(_) => vec![
-            root.join("../shared/docs/src/cpu.rs"),
-            PathBuf::from("/work/shared/docs/src/cpu.rs"),
-        ],
+    let original = match env::var("ORIGINAL") {
+        Ok(given) => PathBuf::from(given),
+        Err(_) => root.join("../shared/docs/src"),
     };
-    let found = places.iter().find(|p| p.is_file()).and_then(|p| fs::canonicalize(p).ok());
+    let found = fs::canonicalize(original.join("cpu.rs")).ok().filter(|p| p.is_file());
     let out = Path::new(&env::var("OUT_DIR").unwrap()).join("original.rs");
     match found {
         Some(path) => {
@@ -46,7 +42,7 @@ fn main() {
             fs::write(&out, text).unwrap();
         }
         None => {
-            println!("cargo:warning=the original's cpu.rs is not at {}: give its path in ORACLE_CPU_RS", places[0].display());
+            println!("cargo:warning=the original's cpu.rs is not in {}: give its original in ORIGINAL", original.display());
             fs::write(&out, "").unwrap();
         }
     }

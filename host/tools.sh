@@ -41,11 +41,10 @@ find_archive() {
 
 # Sets `original`, the original's cpu.rs.
 find_original() {
-    original=../../shared/docs/src/cpu.rs
-    [ -f "$original" ] || original=/work/shared/docs/src/cpu.rs
-    [ -z "${ORACLE_CPU_RS:-}" ] || original=$(given "$ORACLE_CPU_RS")
-    [ -f "$original" ] || lacks "the original's cpu.rs is not there: give its path in ORACLE_CPU_RS"
-    original=$(readlink -f "$original")
+    original=../../shared/docs/src
+    [ -z "${ORIGINAL:-}" ] || original=$(given "$ORIGINAL")
+    [ -f "$original/cpu.rs" ] || lacks "the original's cpu.rs is not in $original: give its folder in ORIGINAL"
+    original=$(readlink -f "$original/cpu.rs")
 }
 
 # build PROGRAM FOLDER: compiles the wrapper and a program of src/bin over it to FOLDER/PROGRAM, over the archive
