@@ -104,10 +104,10 @@ module _ (b k v : ℕ) (whole : Advance) (g : List ℕ) (pc sr : ℕ) (e : Emac)
 
   -- a core that is stopped
   pub halts : (s : Cpu) → rest .stopped ≡ true → s ≡ now → advance (endedAs Stopped k 0 s) (l .storage) ≡ whole
+  unfolding step withParts refusal
   halts s w q = stops b k v whole now l (t .inv) (refusedAs Stopped s) (l .storage) (t .more) (rw q at-rest) refl
     where
       at-rest : outcome (refusedAs Stopped now) (l .storage) ≡ step now l
-      unfolding step withParts refusal
       at-rest =
           rw (t .ready)
           (ap (λ (b : Bool). cond b (unchanged now Stopped m) (perform now (execute g pc sr (rest .other) e m) m)) (sym w))
@@ -119,10 +119,10 @@ module _ (b k v : ℕ) (whole : Advance) (g : List ℕ) (pc sr : ℕ) (e : Emac)
   -- a word that is not to be had
   pub unfetched : rest .stopped ≡ false → (x : Fault) (got : Got) → got ≡ load m pc Word → got ≡ NoValue x → (s : Cpu) → s ≡ now
       → advance (endedAs (faultReply x) k 0 s) (l .storage) ≡ whole
+  unfolding execute refused refuse perform refusal
   unfetched w x got is f s q = stops b k v whole now l (t .inv) (refusedAs (faultReply x) s) (l .storage) (t .more) (rw q missing) (fault-refused x)
     where
       missing : outcome (refusedAs (faultReply x) now) (l .storage) ≡ step now l
-      unfolding execute refused refuse perform refusal
       missing = rw (any w (execute g pc sr (rest .other) e m) refl, ← is, f)
 
 -- ---- the same once its word is fetched and its row is known
