@@ -6,7 +6,7 @@ use manual::Place;
 use manual::Reply;
 use manual::Size;
 use manual::Write;
-use replies::fault_reply;
+use state::replies::fault_reply;
 use word::flags::kept_codes;
 use word::registers::address;
 use word::registers::data;

@@ -1,5 +1,5 @@
 // Runs the image file on standard input, and prints what came of it.
-use imagerun::answer;
+use image::run::answer;
 use libc::STDIN_FILENO;
 use libc::STDOUT_FILENO;
 

@@ -1,6 +1,6 @@
 // What `coreimage` prints of three files that are refused. They stand one after the other on standard input: four bytes, fewer than a
 // file's head; the sample with version 2; and the sample with a status register that is not admitted.
-use imagerun::answer;
+use image::run::answer;
 use libc::STDIN_FILENO;
 use libc::STDOUT_FILENO;
 

@@ -40,11 +40,11 @@ use Rattle.instructions.specs.Step.{execute, step}
 use Rattle.instructions.specs.Run.{RunOutcome, ended, afterOne, steps, run}
 use Rattle.word.specs.TestLaws.{by-lt}
 use Rattle.word.specs.SignedLaws.{signed-pos, signed-neg}
-use Rattle.statusregister.specs.MaskLaws.{status-mask}
-use Rattle.statusregister.specs.AdmittedLaws.{admitted-status, admitted-emac, registers-admitted, address-admitted, other-admitted, stopped-admitted, emac-admitted, applied-admitted, set-sr-admitted}
+use Rattle.state.specs.MaskLaws.{status-mask}
+use Rattle.state.specs.AdmittedLaws.{admitted-status, admitted-emac, registers-admitted, address-admitted, other-admitted, stopped-admitted, emac-admitted, applied-admitted, set-sr-admitted}
 use Rattle.exceptions.specs.EntryAdmitted.{refusal-admitted, taking-admitted, entered-admitted, left-admitted}
 use Rattle.emac.specs.EmacKept as emac
-use Rattle.emaccalls.specs.CallsKept as calls
+use Rattle.calls_emac.specs.CallsKept as calls
 
 -- the number that all of a pattern stands for: of an admitted one nothing is cut to 48 bits
 abbrev pub whole : Mode → ℕ → ℤ

@@ -15,7 +15,7 @@ use Rattle.manual.specs.Block.{fresh, readBlock, storeBlock}
 use Rattle.manual.specs.Image.{loadImage, runText, answerLine, textOf}
 use Rattle.instructions.specs.Step.{step}
 use Rattle.instructions.specs.Run.{run}
-use Rattle.emacunit.specs.UnitCalls as unit
+use Rattle.emac_lent.specs.UnitCalls as unit
 
 -- what a promise allows is what is equal to x; two such outcomes are equal
 abbrev pub Determined : {A : Type 0} → A → Type 0

@@ -13,7 +13,7 @@ use Rattle.manual.specs.Reply.{numberOf, isDone}
 use Rattle.manual.specs.Admitted.{admitted}
 use Rattle.manual.specs.Lent.{Lent, longest, tooLong, orElse, lentRefusal, stateRefusal, firstRefusal}
 use Rattle.word.specs.TestLaws.{by-lt}
-use Rattle.statusregister.specs.FirstLaws.{first-done, first-lent, first-admitted}
+use Rattle.state.specs.FirstLaws.{first-done, first-lent, first-admitted}
 use Rattle.demands.specs.Exact.{TooLong, Usable, Ready, OneOf}
 
 -- ---- the test of the length

@@ -26,8 +26,8 @@ use Rattle.manual.specs.Lent.{Lent, memoryOf, lentOn, longest}
 use Rattle.manual.specs.Exceptions.{supervisor, twoStacks, handling, pcPlace, framePlace, handlerState}
 use Rattle.word.specs.WordLaws.{minus-below}
 use Rattle.memory.specs.MemoryLaws.{byte-store, length-store, value-lt}
-use Rattle.statusregister.specs.AdmittedLaws.{admitted-status, pc-admitted}
-use Rattle.statusregister.specs.FirstLaws.{first-admitted, first-kept}
+use Rattle.state.specs.AdmittedLaws.{admitted-status, pc-admitted}
+use Rattle.state.specs.FirstLaws.{first-admitted, first-kept}
 use Rattle.exceptions.specs.EntryAdmitted.{entered-admitted, left-admitted}
 use Rattle.demands.specs.Exact.{Bytes, Ready}
 use Rattle.demands.specs.AccessLaws.{byte-is}

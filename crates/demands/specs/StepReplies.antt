@@ -29,7 +29,7 @@ use Rattle.instructions.specs.Line4.{nothing, line4}
 use Rattle.instructions.specs.Perform.{perform}
 use Rattle.instructions.specs.Step.{instruction, step}
 use Rattle.instructions.specs.Run.{RunOutcome, run}
-use Rattle.statusregister.specs.FirstLaws.{first-admitted, first-kept}
+use Rattle.state.specs.FirstLaws.{first-admitted, first-kept}
 use Rattle.demands.specs.Refusals.{done-is}
 use Rattle.demands.specs.Runs.{runs}
 use Rattle.demands.specs.Admits.{admits}

@@ -27,8 +27,8 @@ use Rattle.manual.specs.Exceptions.{supervisor, twoStacks, setSr, handling, fra
 use Rattle.instructions.specs.Step.{step}
 use Rattle.word.specs.WordLaws.{plus-below}
 use Rattle.memory.specs.MemoryLaws.{length-store}
-use Rattle.statusregister.specs.AdmittedLaws.{admitted-status}
-use Rattle.statusregister.specs.FirstLaws.{first-admitted, first-kept}
+use Rattle.state.specs.AdmittedLaws.{admitted-status}
+use Rattle.state.specs.FirstLaws.{first-admitted, first-kept}
 use Rattle.demands.specs.Accesses.{Inside}
 use Rattle.demands.specs.Exact.{Bytes, Ready}
 use Rattle.demands.specs.AccessLaws.{byte-is}

@@ -9,9 +9,9 @@ use Rattle.manual.specs.declared.Emac.{Emac}
 use Rattle.manual.specs.declared.Reply.the-variants.{Done, NotAdmitted, OutOfRange}
 use Rattle.manual.specs.Reply.{numberOf}
 use Rattle.manual.specs.Admitted.{emacAdmitted}
-use Rattle.emacunit.specs.declared.EmacAnswer.{EmacAnswer}
-use Rattle.emacunit.specs.UnitCalls.{answer, changed, accChanged, accumulateCall, setMacsrCall, moveToCall, clearAccCall}
-use Rattle.emacunit.specs.UnitKept.{accumulate-call-kept, set-macsr-call-kept, move-to-call-kept, clear-acc-call-kept}
+use Rattle.emac_lent.specs.declared.unit.EmacAnswer.{EmacAnswer}
+use Rattle.emac_lent.specs.UnitCalls.{answer, changed, accChanged, accumulateCall, setMacsrCall, moveToCall, clearAccCall}
+use Rattle.emac_lent.specs.UnitKept.{accumulate-call-kept, set-macsr-call-kept, move-to-call-kept, clear-acc-call-kept}
 use Rattle.demands.specs.Refusals.{NotZero}
 use Rattle.demands.specs.CallReplies.{pick, is-0, not-2, acc-tests, acc-0, acc-2, acc-6}
 

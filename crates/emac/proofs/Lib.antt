@@ -1,2 +1,4 @@
+pub mod RaisedProduct
+pub mod FractionLaws
 mod MoveLaws
 mod ReadLaws

@@ -10,7 +10,7 @@ use Rattle.manual.specs.declared.Mode.{Mode}
 use Rattle.manual.specs.declared.Emac.{Emac}
 use Rattle.manual.specs.Word.{modZ}
 use Rattle.manual.specs.Emac.{has, accOf, withAcc, turned, setMacsr, loadedAs, withExt}
-use Rattle.emacproduct.specs.ProductLaws.{long-pos, long-neg}
+use Rattle.emac.specs.ProductLaws.{long-pos, long-neg}
 
 -- ---- a long as the mode reads it
 

@@ -10,7 +10,7 @@ use Rattle.manual.specs.Emac.{roundsUp, nearest, rounded, readWith}
 use Rattle.word.specs.RaisedLaws.{Up, higher, up-negative, out-half}
 use Rattle.emac.specs.Parts.{IsRounded, IsClamped}
 use Rattle.emac.specs.NumberLaws.{floor24, mod24, odd24, floor8, mod8, odd8, mod16, mod32}
-use Rattle.emacproduct.specs.RoundLaws.{round-up, round-down}
+use Rattle.emac.specs.RoundLaws.{round-up, round-down}
 
 module _ (r : ℕ) where
   pub up24 : roundsUp (2 ^ 24) (r % 2 ^ 24) (r / 2 ^ 24 % 2) ≡ true → IsRounded true (2 ^ 24) r (r / 2 ^ 24 + 1 + 0xF_FFFF_F000_0000)

@@ -12,7 +12,7 @@ use Rattle.manual.specs.Word.{signedAt, modZ}
 use Rattle.manual.specs.Emac.{unsigned, valueOf, inRange, blockNumber, blockInRange}
 use Rattle.word.specs.TestLaws.{by-lt}
 use Rattle.word.specs.SignedLaws.{signed-pos, signed-neg}
-use Rattle.emacproduct.specs.BoolLaws.{by-bool}
+use Rattle.emac.specs.BoolLaws.{by-bool}
 use Rattle.emac.specs.EmacKept.{modZ-below}
 
 module _ (k : Mode) (a : ℕ) where

@@ -14,8 +14,8 @@ use Rattle.manual.specs.declared.Emac.{Emac}
 use Rattle.manual.specs.Word.{modZ, negative}
 use Rattle.manual.specs.Emac.{has, modeOf, pav, accOf, withAcc, accPart, extPart, patternOf, turned, inRange, limit, settled, accumulate, setMacsr, loadedAs, moveTo, copyAcc, clearAcc, withExt, setExt, setMask}
 use Rattle.manual.specs.Admitted.{pattern, emacAdmitted}
-use Rattle.emacproduct.specs.BoolLaws.{and-left, and-right}
-use Rattle.emacflags.specs.FlagLaws.{Numbered, first, second, third, fourth, numbered, pav-below, flagged-below}
+use Rattle.emac.specs.BoolLaws.{and-left, and-right}
+use Rattle.emac.specs.FlagLaws.{Numbered, first, second, third, fourth, numbered, pav-below, flagged-below}
 
 -- ---- what an admitted unit is: MACSR has twelve bits, and each accumulator is a pattern of 48
 

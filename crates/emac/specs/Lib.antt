@@ -1,3 +1,10 @@
+pub mod FlagLaws
+pub mod Products
+pub mod BoolLaws
+pub mod RoundLaws
+pub mod ProductLaws
+pub mod Sums
+pub mod MacLaws
 pub mod Parts
 pub mod NumberLaws
 pub mod EmacKept

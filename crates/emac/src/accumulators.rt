@@ -1,9 +1,9 @@
 // The accumulators by number, their physical registers ACCn and ACCextn, and the moves to them.
-use emacflags::flagged;
-use emacflags::fractional;
-use emacflags::mode_of;
-use emacflags::pav;
-use emacflags::with_pav;
+use super::flags::flagged;
+use super::flags::fractional;
+use super::flags::mode_of;
+use super::flags::pav;
+use super::flags::with_pav;
 use manual::Emac;
 use manual::Mode;
 ghost use mathlib.Core.Path.{_≡_};

@@ -1,6 +1,7 @@
 // The multiply-accumulate unit, by value.
 pub mod accumulators;
-pub mod block;
 pub mod flags;
-pub mod mac;
+pub mod number;
+pub mod product;
 pub mod read;
+pub mod sum;

@@ -1,6 +1,6 @@
 // MOVE.L ACCy,Rx. Numbers are raised by 2^52.
-use emacproduct::rounds_up;
-use emacsum::value_of;
+use super::product::rounds_up;
+use super::sum::value_of;
 use manual::Mode;
 ghost use mathlib.Core.Path.{_≡_};
 ghost use mathlib.Core.Bool.{true};

@@ -19,7 +19,7 @@ use Rattle.manual.specs.Differences.{vectorPlace}
 use Rattle.manual.specs.Memory.{Memory, access, load}
 use Rattle.manual.specs.Word.{plus}
 use Rattle.manual.specs.declared.Size.the-variants.{Long}
-use Rattle.statusregister.specs.AdmittedLaws.{admitted-emac, address-admitted, pc-admitted, stopped-admitted, set-sr-admitted}
+use Rattle.state.specs.AdmittedLaws.{admitted-emac, address-admitted, pc-admitted, stopped-admitted, set-sr-admitted}
 
 pub handler-admitted : (t : Cpu) (frame handler : ℕ) → admitted t ≡ true → admitted (handlerState t frame handler) ≡ true
 unfolding handlerState

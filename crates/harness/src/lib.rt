@@ -1,19 +1,21 @@
 // The calls that a host makes in C: a state block and a memory, each a pointer and a length.
-use blockcalls::exception as exception_call;
-use blockcalls::exception_at as exception_at_call;
-use blockcalls::interrupt as interrupt_call;
-use blockcalls::opened;
-use blockcalls::rte as rte_call;
-use blockcalls::settle;
+pub mod calls;
+
+use calls::exception as exception_call;
+use calls::exception_at as exception_at_call;
+use calls::interrupt as interrupt_call;
+use calls::opened;
+use calls::rte as rte_call;
+use calls::settle;
 use machine::run::run as run_call;
 use machine::run::step as step_call;
-use replies::is_done;
-use replies::number_of;
+use state::replies::is_done;
+use state::replies::number_of;
 ghost use mathlib.Core.Path.{_≡_};
 ghost use Rattle.manual.specs.declared.Level.the-variants.{Kept, To};
 ghost use Rattle.manual.specs.Lent.{lent};
-ghost use Rattle.blockcalls.specs.Calls.{called, exceptionOn, interruptOn, rteOn};
-ghost use Rattle.harness.specs.Calls.{stepOn, runOn};
+ghost use Rattle.harness.specs.Calls.{called, exceptionOn, interruptOn, rteOn};
+ghost use Rattle.harness.specs.StepCalls.{stepOn, runOn};
 
 // One step: the number of the reply, and 256 times the vector that was entered.
 #[no_mangle]

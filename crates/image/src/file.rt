@@ -1,11 +1,11 @@
 // An image file, read into a memory and a state.
 use super::Loaded;
-use freshstate::fresh;
 use manual::Cpu;
 use manual::Reply;
 use memory::long_at;
-use replies::is_done;
-use statusregister::admitted;
+use state::fresh::fresh;
+use state::replies::is_done;
+use state::status::admitted;
 use word::registers::with_address;
 use word::registers::with_pc;
 use word::registers::with_sr;

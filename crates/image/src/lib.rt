@@ -1,5 +1,7 @@
-// The image file: from bytes to a machine.
+// The image file: from bytes to a machine, and from a run to its text.
 pub mod file;
+pub mod print;
+pub mod run;
 
 use manual::Cpu;
 use manual::Reply;
@@ -9,4 +11,10 @@ pub struct Loaded {
     pub reply: Reply,
     pub budget: u32,
     pub cpu: Cpu,
+}
+
+// A text of `len` bytes, and zeros after it.
+pub struct Text {
+    pub bytes: [u8; 256],
+    pub len: usize,
 }

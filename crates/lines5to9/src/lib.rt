@@ -2,3 +2,4 @@ pub mod line5;
 pub mod line6;
 pub mod line7;
 pub mod line9d;
+pub mod sums;

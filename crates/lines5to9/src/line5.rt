@@ -1,11 +1,11 @@
 // Line 5: ADDQ, SUBQ, Scc and TPF.
+use super::sums::more_or_less;
+use super::sums::to_place;
 use address::changes::done;
 use address::changes::illegal;
 use address::changes::jump;
 use manual::Change;
 use manual::Size;
-use sums::more_or_less;
-use sums::to_place;
 use word::conditions::condition;
 use word::flags::kept_codes;
 use word::flags::sum_codes;

@@ -1,11 +1,11 @@
 // Lines 9 and D: SUB and ADD, SUBA and ADDA, SUBX and ADDX.
+use super::sums::to_address;
+use super::sums::to_data;
+use super::sums::to_memory;
+use super::sums::with_x;
 use address::changes::illegal;
 use manual::Change;
 use manual::Size;
-use sums::to_address;
-use sums::to_data;
-use sums::to_memory;
-use sums::with_x;
 ghost use mathlib.Core.Path.{_≡_};
 ghost use Prim.Native.Nat.{_+_, _*_, _/_, _%_};
 ghost use Rattle.manual.specs.Memory.{mapped};

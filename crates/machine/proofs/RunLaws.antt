@@ -31,15 +31,15 @@ use Rattle.instructions.specs.Run.{RunOutcome, ended, afterOne, steps}
 use Rattle.machine.specs.declared.Progress.{Progress}
 use Rattle.machine.specs.Advance.{Advance, advance, endedAs, progress}
 use Rattle.rows.specs.RowLaws.{of-row}
-use Rattle.statusregister.specs.FirstLaws.{first-admitted, first-kept}
-use Rattle.perform.specs.KeptLaws.{perform-admitted}
-use Rattle.inplace.specs.declared.Effect.{Effect}
-use Rattle.inplace.specs.declared.Effect.the-variants.{Done as OnPlace, Left as NotOnPlace}
-use Rattle.inplace.specs.Effects.{after as effected, agreed, inPlace}
-use Rattle.inplace.specs.PlaceLaws as place
-use Rattle.quickmac.specs.declared.Summed.the-variants.{Done as OnUnit}
-use Rattle.quickmac.specs.Units.{afterMac, inUnit}
-use Rattle.quickmac.specs.UnitLaws.{summed-performed}
+use Rattle.state.specs.FirstLaws.{first-admitted, first-kept}
+use Rattle.machine.specs.KeptLaws.{perform-admitted}
+use Rattle.quick_parts.specs.declared.inplace.Effect.{Effect}
+use Rattle.quick_parts.specs.declared.inplace.Effect.the-variants.{Done as OnPlace, Left as NotOnPlace}
+use Rattle.quick_parts.specs.Effects.{after as effected, agreed, inPlace}
+use Rattle.quick_parts.specs.PlaceLaws as place
+use Rattle.quick_bodies.specs.declared.mac.Summed.the-variants.{Done as OnUnit}
+use Rattle.quick_bodies.specs.Units.{afterMac, inUnit}
+use Rattle.quick_bodies.specs.UnitLaws.{summed-performed}
 use Rattle.quick.specs.declared.Attempt.{Attempt}
 use Rattle.quick.specs.declared.Attempt.the-variants.{Done as InPlace, Summed as InUnit, Left}
 use Rattle.quick.specs.Attempts.{whole as all, agreedWhole, Attempted, apart}

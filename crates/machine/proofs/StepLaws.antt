@@ -26,7 +26,7 @@ use Rattle.manual.specs.Differences.{vectorPlace}
 use Rattle.manual.specs.Exceptions.{setSr, handling, pcPlace, framePlace, entered, left}
 use Rattle.instructions.specs.Perform.{statusPushed, act, perform}
 use Rattle.instructions.specs.Step.{execute, step}
-use Rattle.statusregister.specs.ReplyLaws.{done-is}
+use Rattle.state.specs.ReplyLaws.{done-is}
 use Rattle.machine.specs.declared.Progress.{Progress}
 use Rattle.machine.specs.Advance.{Advance, advance, endedAs, progress}
 

@@ -1,1 +1,3 @@
+pub mod KeptLaws
+pub mod Completed
 pub mod Advance

@@ -1,4 +1,6 @@
-// The machine: steps and runs.
+// The machine: what an instruction changes, that change done, steps and runs.
+pub mod execute;
+pub mod perform;
 pub mod run;
 mod turn;
 

@@ -1,17 +1,17 @@
 // One instruction by the plain engine, its word and row being known.
-use execute::instruction;
-use inplace::Effect;
-use inplace::carried_out;
+use super::execute::instruction;
+use super::perform::perform;
 use manual::Cpu;
 use manual::Stepped;
-use perform::perform;
+use quick_parts::inplace::Effect;
+use quick_parts::inplace::carried_out;
 ghost use mathlib.Core.Path.{_≡_};
 ghost use Rattle.manual.specs.Memory.{mapped};
 ghost use Rattle.manual.specs.Emac.{emacOf};
 ghost use Rattle.manual.specs.Reply.{outcome};
 ghost use Rattle.instructions.specs.Perform.{perform as performOf};
 ghost use Rattle.instructions.specs.Step.{ofRow};
-ghost use Rattle.inplace.specs.Effects.{after, agreed};
+ghost use Rattle.quick_parts.specs.Effects.{after, agreed};
 
 // In place, or left. Apart from the loop, so that what is rare takes no room there.
 pub(crate) fn plain(

@@ -8,13 +8,13 @@ use Rattle.manual.specs.declared.Emac.{Emac}
 use Rattle.manual.specs.declared.Change.{Change}
 use Rattle.manual.specs.Emac.{emacOf}
 use Rattle.manual.specs.Memory.{Storage, Memory}
-use Rattle.inplace.specs.declared.Effect.{Effect}
-use Rattle.inplace.specs.declared.Effect.the-variants.{Done as InPlace, Left as NotInPlace}
-use Rattle.inplace.specs.Effects.{After, after, agreed, inPlace}
-use Rattle.inplace.specs.PlaceLaws.{left-registers, left-memory}
-use Rattle.quickmac.specs.declared.Summed.{Summed}
-use Rattle.quickmac.specs.declared.Summed.the-variants.{Done as InUnit, Left as NotInUnit}
-use Rattle.quickmac.specs.Units.{AfterMac, afterMac, agreedMac, summed as summedAs, undone, inUnit}
+use Rattle.quick_parts.specs.declared.inplace.Effect.{Effect}
+use Rattle.quick_parts.specs.declared.inplace.Effect.the-variants.{Done as InPlace, Left as NotInPlace}
+use Rattle.quick_parts.specs.Effects.{After, after, agreed, inPlace}
+use Rattle.quick_parts.specs.PlaceLaws.{left-registers, left-memory}
+use Rattle.quick_bodies.specs.declared.mac.Summed.{Summed}
+use Rattle.quick_bodies.specs.declared.mac.Summed.the-variants.{Done as InUnit, Left as NotInUnit}
+use Rattle.quick_bodies.specs.Units.{AfterMac, afterMac, agreedMac, summed as summedAs, undone, inUnit}
 use Rattle.quick.specs.declared.Attempt.{Attempt}
 use Rattle.quick.specs.declared.Attempt.the-variants.{Done, Summed as Sum, Left}
 

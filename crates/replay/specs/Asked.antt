@@ -7,8 +7,8 @@ use lib.Dec.{eqb}
 use lib.ListN.{getD, length, take, drop}
 use Rattle.manual.specs.declared.Level.the-variants.{Kept, To}
 use Rattle.manual.specs.Memory.{valueAt}
-use Rattle.blockcalls.specs.Calls.{Called, called, exceptionOn, interruptOn, rteOn}
-use Rattle.harness.specs.Calls.{stepOn, runOn}
+use Rattle.harness.specs.Calls.{Called, called, exceptionOn, interruptOn, rteOn}
+use Rattle.harness.specs.StepCalls.{stepOn, runOn}
 
 unfoldable pub asked : List ℕ → List ℕ → List ℕ → Called
 asked h b m =

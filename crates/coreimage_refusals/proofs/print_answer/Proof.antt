@@ -1,6 +1,6 @@
 -- `coreimage_refusals::print_answer` meets its contract: the text lies in its bytes. Assumes nothing.
 use borrow.Author.Needs.{needs}
-use Rattle.imagerun.specs.TextLaws.{text-inside, text-counted}
+use Rattle.image.specs.TextLaws.{text-inside, text-counted}
 use Rattle.coreimage_refusals.proofs.print_answer.Statement.{statement}
 use Rattle.coreimage_refusals.proofs.print_answer.Tie as tie
 

@@ -5,8 +5,8 @@ use denote.Ref.{now}
 use Rattle.manual.specs.declared.Cpu.{Cpu}
 use Rattle.manual.specs.Lent.{lent}
 use Rattle.instructions.specs.Step.{step}
-use Rattle.blockcalls.specs.CallLaws.{refused-is, made-is}
-use Rattle.harness.specs.Calls.{stepOn}
+use Rattle.harness.specs.CallLaws.{refused-is, made-is}
+use Rattle.harness.specs.StepCalls.{stepOn}
 use Rattle.harness.proofs.step.Statement.{statement}
 use Rattle.harness.proofs.step.Tie as tie
 

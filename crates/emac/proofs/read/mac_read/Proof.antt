@@ -1,7 +1,7 @@
 use Prim.Native.Nat.{_%_, _^_}
 use Rattle.manual.specs.Emac.{readAcc, valueOf}
 use Rattle.emac.proofs.ReadLaws.{word, long, integer, too-large, as-it-is}
-use Rattle.emacsum.specs.MacLaws.{taken}
+use Rattle.emac.specs.MacLaws.{taken}
 use borrow.Author.Needs.{needs}
 use Rattle.emac.proofs.read.mac_read.Statement.{statement}
 use Rattle.emac.proofs.read.mac_read.Tie as tie

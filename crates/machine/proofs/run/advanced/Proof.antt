@@ -12,7 +12,7 @@ use Rattle.manual.specs.Admitted.{admitted}
 use Rattle.manual.specs.declared.Reply.the-variants.{Stopped, NotInside}
 use Rattle.instructions.specs.Step.{step}
 use Rattle.machine.specs.Advance.{progress}
-use Rattle.perform.specs.Quiet.{quietly}
+use Rattle.machine.specs.Quiet.{quietly}
 use Rattle.machine.proofs.RunLaws as laws
 use Rattle.machine.proofs.run.advanced.Statement.{statement}
 use Rattle.machine.proofs.run.advanced.Tie as tie

@@ -1,0 +1,2 @@
+pub mod ReadLoops
+pub mod StoreLoops

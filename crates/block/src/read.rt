@@ -1,0 +1,121 @@
+// The state that a block of 128 bytes says, or the reply that refuses it. Document 01: "A state block is 128 bytes".
+use super::number::byte_at;
+use super::number::long_at;
+use super::number::read_number;
+use super::number::word_at;
+use emac::flags::mode_of;
+use emac::number::block_in_range;
+use manual::Answer;
+use manual::Cpu;
+use manual::Emac;
+use manual::Reply;
+use state::fresh::fresh;
+use state::status::admitted;
+use word::flags::both;
+ghost use mathlib.Core.Path.{_≡_};
+ghost use lib.ListN.{length};
+ghost use Rattle.manual.specs.Block.{longsAt, emacAt, stateAt, numbersFit, notRead, readBlock};
+
+fn registers_at(bytes: &[u8]) -> [u32; 16]
+    requires { ⌜ length (now bytes) ≡ 128 ⌝ }
+    ensures { λ r. ⌜ r ≡ longsAt (now (bytes .entry)) 16 5 ⌝ }
+{
+    let mut g: [u32; 16] = [0; 16];
+    let mut i: usize = 0;
+    while i < 16 {
+        g[i] = long_at(bytes, 5 + i * 4);
+        i += 1;
+    }
+    g
+}
+
+fn emac_at(bytes: &[u8]) -> Emac
+    requires { ⌜ length (now bytes) ≡ 128 ⌝ }
+    ensures { λ r. ⌜ r ≡ emacAt (now (bytes .entry)) ⌝ }
+{
+    let macsr = long_at(bytes, 87);
+    let mask = long_at(bytes, 91);
+    let acc = [
+        read_number(bytes, 95, 8) % 0x1_0000_0000_0000,
+        read_number(bytes, 103, 8) % 0x1_0000_0000_0000,
+        read_number(bytes, 111, 8) % 0x1_0000_0000_0000,
+        read_number(bytes, 119, 8) % 0x1_0000_0000_0000,
+    ];
+    Emac {
+        macsr: macsr,
+        mask: mask,
+        acc: acc,
+    }
+}
+
+fn state_at(bytes: &[u8]) -> Cpu
+    requires { ⌜ length (now bytes) ≡ 128 ⌝ }
+    ensures { λ r. ⌜ r ≡ stateAt (now (bytes .entry)) ⌝ }
+{
+    let r = registers_at(bytes);
+    let pc = long_at(bytes, 69);
+    let sr = word_at(bytes, 73);
+    let other = long_at(bytes, 75);
+    let vbr = long_at(bytes, 79);
+    let cacr = long_at(bytes, 83);
+    let unit = emac_at(bytes);
+    let last = byte_at(bytes, 127);
+    Cpu {
+        r: r,
+        pc: pc,
+        sr: sr,
+        other: other,
+        vbr: vbr,
+        cacr: cacr,
+        emac: unit,
+        stopped: last == 1,
+    }
+}
+
+fn numbers_fit(bytes: &[u8]) -> bool
+    requires { ⌜ length (now bytes) ≡ 128 ⌝ }
+    ensures { λ r. ⌜ r ≡ numbersFit (now (bytes .entry)) ⌝ }
+{
+    let k = mode_of(long_at(bytes, 87));
+    let a = block_in_range(k, read_number(bytes, 95, 8));
+    let b = block_in_range(k, read_number(bytes, 103, 8));
+    let c = block_in_range(k, read_number(bytes, 111, 8));
+    let d = block_in_range(k, read_number(bytes, 119, 8));
+    let last = byte_at(bytes, 127);
+    a & (b & (c & (d & (last < 2))))
+}
+
+fn not_read(reply: Reply) -> Answer
+    ensures { λ r. ⌜ r ≡ notRead reply ⌝ }
+{
+    let s = fresh();
+    Answer {
+        reply: reply,
+        cpu: s,
+    }
+}
+
+pub fn read_block(bytes: &[u8]) -> Answer
+    ensures { λ r. ⌜ r ≡ readBlock (now (bytes .entry)) ⌝ }
+{
+    if bytes.len() < 5 {
+        return not_read(Reply::WrongLength);
+    }
+    if byte_at(bytes, 0) != 1 {
+        return not_read(Reply::WrongVersion);
+    }
+    if bytes.len() != 128 {
+        return not_read(Reply::WrongLength);
+    }
+    if long_at(bytes, 1) != 123 {
+        return not_read(Reply::WrongLength);
+    }
+    let s = state_at(bytes);
+    if both(admitted(s), numbers_fit(bytes)) {
+        return Answer {
+            reply: Reply::Done,
+            cpu: s,
+        };
+    }
+    not_read(Reply::NotAdmitted)
+}

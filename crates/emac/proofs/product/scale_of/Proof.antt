@@ -1,0 +1,12 @@
+use Rattle.emac.proofs.product.scale_of.Statement.{statement}
+use Rattle.emac.proofs.product.scale_of.Tie as tie
+
+returns : tie.Need-returns
+returns c = rw (c .if1 .taken)
+
+returns-2 : tie.Need-returns-2
+returns-2 c = rw (c .if1 .left)
+
+pub scale-of-spec : {M : Type 1} → statement M
+scale-of-spec =
+    tie.close (tie.spec returns returns-2)

@@ -1,0 +1,89 @@
+// The calls on a unit by value, refusals first.
+use emac::accumulators;
+use emac::sum;
+use manual::Emac;
+use manual::Reply;
+use state::status::emac_admitted;
+ghost use mathlib.Core.Path.{_≡_};
+ghost use Rattle.emac_lent.specs.UnitCalls.{answer, accumulateCall, setMacsrCall, moveToCall, clearAccCall};
+
+const ACCUMULATORS: u32 = 4;
+
+// What a call on the unit answers: the reply and the unit.
+pub struct EmacAnswer {
+    pub reply: Reply,
+    pub emac: Emac,
+}
+
+// The unit as it was.
+fn refused(e: Emac, reply: Reply) -> EmacAnswer
+    ensures { λ r. ⌜ r ≡ answer reply e ⌝ }
+{
+    EmacAnswer {
+        reply: reply,
+        emac: e,
+    }
+}
+
+// MAC, and MSAC where `sub`.
+pub fn accumulate(e: Emac, i: u32, scale: u32, sub: bool, x: u32, y: u32) -> EmacAnswer
+    ensures { λ r. ⌜ r ≡ accumulateCall e i scale sub x y ⌝ }
+{
+    if !emac_admitted(e) {
+        return refused(e, Reply::NotAdmitted);
+    }
+    if ACCUMULATORS <= i {
+        return refused(e, Reply::OutOfRange);
+    }
+    let sum = sum::accumulate(e, i, scale, sub, x, y);
+    EmacAnswer {
+        reply: Reply::Done,
+        emac: sum,
+    }
+}
+
+pub fn set_macsr(e: Emac, v: u32) -> EmacAnswer
+    ensures { λ r. ⌜ r ≡ setMacsrCall e v ⌝ }
+{
+    if !emac_admitted(e) {
+        return refused(e, Reply::NotAdmitted);
+    }
+    let turned = accumulators::set_macsr(e, v);
+    EmacAnswer {
+        reply: Reply::Done,
+        emac: turned,
+    }
+}
+
+// MOVE.L to an accumulator.
+pub fn move_to(e: Emac, i: u32, v: u32) -> EmacAnswer
+    ensures { λ r. ⌜ r ≡ moveToCall e i v ⌝ }
+{
+    if !emac_admitted(e) {
+        return refused(e, Reply::NotAdmitted);
+    }
+    if ACCUMULATORS <= i {
+        return refused(e, Reply::OutOfRange);
+    }
+    let moved = accumulators::move_to(e, i, v);
+    EmacAnswer {
+        reply: Reply::Done,
+        emac: moved,
+    }
+}
+
+pub fn clear_acc(e: Emac, i: u32) -> EmacAnswer
+    ensures { λ r. ⌜ r ≡ clearAccCall e i ⌝ }
+{
+    if !emac_admitted(e) {
+        return refused(e, Reply::NotAdmitted);
+    }
+    if ACCUMULATORS <= i {
+        return refused(e, Reply::OutOfRange);
+    }
+    let cleared = accumulators::clear_acc(e, i);
+    EmacAnswer {
+        reply: Reply::Done,
+        emac: cleared,
+    }
+}

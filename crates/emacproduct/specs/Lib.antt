@@ -1,4 +1,0 @@
-pub mod Products
-pub mod BoolLaws
-pub mod RoundLaws
-pub mod ProductLaws

@@ -1,0 +1,18 @@
+-- `harness::calls::exception` meets its contract. Assumes nothing.
+use borrow.Author.Needs.{needs}
+use Rattle.harness.specs.Calls.{exceptionOn}
+use Rattle.harness.proofs.calls.exception.Statement.{statement}
+use Rattle.harness.proofs.calls.exception.Tie as tie
+
+returns : tie.Need-returns
+unfolding exceptionOn
+returns c = c .before .before .before .before .on-block .ensures
+
+pub exception-spec : {M : Type 1} → statement M
+exception-spec =
+    tie.close
+    (tie.spec
+    (λ c κs. search needs)
+    (λ c. search needs)
+    (λ c. search needs)
+    returns)

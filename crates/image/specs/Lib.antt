@@ -1,0 +1,3 @@
+pub mod Texts
+pub mod ImageRun
+pub mod TextLaws

@@ -1,0 +1,26 @@
+// What the program `coreimage` does with the bytes that it was given.
+use super::Text;
+use super::file::read_image;
+use super::print::answer_text;
+use super::print::run_text;
+use machine::run::run;
+use state::replies::is_done;
+ghost use mathlib.Core.Path.{_≡_};
+ghost use Rattle.manual.specs.Image.{printed};
+ghost use Rattle.image.specs.ImageRun.{imageRun, imageRan};
+
+// `mem` has 49,152 bytes; whatever is in it, the file's bytes and zeros take its place.
+pub fn answer(file: &[u8], mem: &mut [u8]) -> Text
+    ensures { λ r. ⌜ imageRan (printed (r .bytes) (r .len)) (now (mem .exit)) ≡ imageRun (now (file .entry)) (now (mem .entry)) ⌝ }
+{
+    let loaded = read_image(file, mem);
+    let reply = loaded.reply;
+    if !is_done(reply) {
+        return answer_text(reply);
+    }
+    let cpu = loaded.cpu;
+    let ran = run(cpu, mem, loaded.budget);
+    let ended = ran.reply;
+    let last = ran.cpu;
+    run_text(ended, ran.count, last)
+}

@@ -1,2 +1,0 @@
-pub mod ImageRun
-pub mod TextLaws

@@ -1,0 +1,10 @@
+use Rattle.instructions.specs.Line4.{saturate as saturateOf}
+use Rattle.line4.proofs.single.sats.Statement.{statement}
+use Rattle.line4.proofs.single.sats.Tie as tie
+
+returns : tie.Need-returns
+unfolding saturateOf
+returns c = rw (← c .before .before .«data» .ensures, ← c .before .saturated .ensures, ← c .replaced .ensures)
+
+pub sats-spec : {M : Type 1} → statement M
+sats-spec = tie.close (tie.spec (λ c κs. tt) (λ c κs. tt) (λ c κs. tt) returns)

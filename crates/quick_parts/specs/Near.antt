@@ -1,0 +1,65 @@
+-- What a spot says of an operand's place, and a reading of its source. `Far` says nothing. Assumes nothing.
+use Prim.Native.Nat.{ℕ, _<_, _^_}
+use mathlib.Core.Path.{_≡_, sym, ap}
+use mathlib.Core.List.{List}
+use Rattle.manual.specs.declared.Size.{Size}
+use Rattle.manual.specs.declared.Got.the-variants.{Value}
+use Rattle.manual.specs.declared.Operand.{Operand}
+use Rattle.manual.specs.declared.Place.{Place}
+use Rattle.manual.specs.declared.Place.the-variants.{M}
+use Rattle.manual.specs.declared.Source.{Source}
+use Rattle.manual.specs.declared.Write.{Write}
+use Rattle.manual.specs.Word.{plus}
+use Rattle.manual.specs.Registers.{noWrite}
+use Rattle.manual.specs.Memory.{Memory, load}
+use Rattle.manual.specs.Address.{extension, locate, moved, source}
+use Rattle.manual.specs.Change.{put, store}
+use Rattle.manual.specs.declared.Change.{Change}
+use Rattle.quick_parts.specs.declared.Spot.{Spot}
+use Rattle.quick_parts.specs.declared.Spot.the-variants.{At, Far}
+use Rattle.quick_parts.specs.declared.Reading.{Reading}
+use Rattle.quick_parts.specs.declared.Reading.the-variants.{Read, Far as Unread}
+
+-- where an operand is, its extension words being at pc
+pub record Located : Type 0 where
+  pub place : Place
+  pub next : ℕ
+  pub step : Write
+
+abbrev pub located : List ℕ → Memory → ℕ → Operand → Size → Located
+located g m pc o z = record { place = locate g m pc o z; next = plus pc (extension o z); step = moved g o z }
+
+abbrev pub inMemory : ℕ → ℕ → Write → Located
+inMemory a next w = record { place = M a; next = next; step = w }
+
+abbrev pub spotted : Spot → Located → Located
+spotted (At a next w) l = inMemory a next w
+spotted Far l = l
+
+abbrev pub readAs : ℕ → ℕ → Write → Source
+readAs v next w = record { got = Value v; next = next; moved = w }
+
+-- the number that is loaded at a spot is what the operand of a word reads
+abbrev pub Readable : List ℕ → Memory → ℕ → ℕ → Size → Spot → Type 0
+Readable g m pc op z (At a next w) = (v : ℕ) → v < 2 ^ 32 → load m a z ≡ Value v → readAs v next w ≡ source g m pc op z
+Readable g m pc op z Far = Unit {0}
+
+abbrev pub asRead : Reading → Source → Source
+asRead (Read v next w) s = readAs v next w
+asRead Unread s = s
+
+pub at : (s : Spot) (l : Located) (a next : ℕ) (w : Write) → s ≡ At a next w → spotted s l ≡ l → l ≡ inMemory a next w
+at s l a next w q h = sym (rw q at h)
+
+pub read : (r : Reading) (s : Source) (v next : ℕ) (w : Write) → r ≡ Read v next w → asRead r s ≡ s → s ≡ readAs v next w
+read r s v next w q h = sym (rw q at h)
+
+-- what is put in memory is stored: the operand's move comes second after another operand's, or first
+module _ (z : Size) (g : List ℕ) (m : Memory) (pc : ℕ) (o : Operand) (codes v a next : ℕ) (w : Write) (h : located g m pc o z ≡ inMemory a next w) where
+  pub put-second : (one : Write) → put g (plus pc (extension o z)) codes one (moved g o z) (locate g m pc o z) z v ≡ store next codes one w a z v
+  unfolding put
+  put-second one = ap (λ (l : Located). put g (l .next) codes one (l .step) (l .place) z v) h
+
+  pub put-first : put g (plus pc (extension o z)) codes (moved g o z) noWrite (locate g m pc o z) z v ≡ store next codes w noWrite a z v
+  unfolding put
+  put-first = ap (λ (l : Located). put g (l .next) codes (l .step) noWrite (l .place) z v) h

@@ -1,0 +1,82 @@
+// Dn, An, (An), (An)+, -(An) and d16(An); of longs that are read, immediates too.
+use super::Reading;
+use super::Spot;
+use manual::Got;
+use manual::Size;
+use memory::load;
+use word::registers::address;
+use word::registers::general;
+use word::registers::no_write;
+use word::registers::write_address;
+use word::word::bytes;
+use word::word::cut;
+use word::word::minus;
+use word::word::plus;
+use word::word::sign_extended;
+ghost use mathlib.Core.Path.{_≡_};
+ghost use mathlib.Core.List.{List};
+ghost use Prim.Native.Nat.{ℕ, _+_, _*_, _/_, _%_};
+ghost use Rattle.manual.specs.Memory.{mapped};
+ghost use Rattle.manual.specs.declared.Size.the-variants.{Long};
+ghost use Rattle.manual.specs.Registers.{addressOf};
+ghost use Rattle.manual.specs.Address.{operand as operandOf, source as sourceOf};
+ghost use Rattle.quick_parts.specs.Near.{located, spotted, Readable, asRead};
+
+// Of a mode and of register r, which holds a: as it is, or as another operand's move left it.
+pub fn spot(z: Size, mem: &[u8], pc: u32, mode: u32, r: u32, a: u32) -> Spot
+    ensures { λ s. ⌜ ((g : List ℕ) → addressOf g r ≡ a → spotted s (located g (mapped (now (mem .entry))) pc (operandOf mode r) z) ≡ located g (mapped (now (mem .entry))) pc (operandOf mode r) z) ⌝ }
+{
+    match mode {
+        2 => Spot::At(a, plus(pc, 0), no_write()),
+        3 => Spot::At(a, plus(pc, 0), write_address(r, plus(a, bytes(z)))),
+        4 => {
+            let b = minus(a, bytes(z));
+            Spot::At(b, plus(pc, 0), write_address(r, b))
+        }
+        5 => match load(mem, pc, Size::Word) {
+            Got::Value(d) => {
+                let b = plus(a, sign_extended(Size::Word, d));
+                Spot::At(b, plus(pc, 2), no_write())
+            }
+            Got::Fault(_) => Spot::Far,
+        },
+        _ => Spot::Far,
+    }
+}
+
+// Where the operand of a word's bits 5 to 0 is to be loaded from: an immediate long stands where its extension words do.
+fn readable(z: Size, g: &[u32; 16], mem: &[u8], pc: u32, op: u32) -> Spot
+    ensures { λ s. ⌜ Readable (now (g .entry)) (mapped (now (mem .entry))) pc op z s ⌝ }
+{
+    if op % 64 == 0x3C {
+        if let Size::Long = z {
+            return Spot::At(pc, plus(pc, 4), no_write());
+        }
+    }
+    let a = address(g, op % 8);
+    spot(z, mem, pc, op / 8 % 8, op % 8, a)
+}
+
+// The operand that a word's bits 5 to 0 name.
+pub fn read(z: Size, g: &[u32; 16], mem: &[u8], pc: u32, op: u32) -> Reading
+    ensures { λ r. ⌜ asRead r (sourceOf (now (g .entry)) (mapped (now (mem .entry))) pc op z) ≡ sourceOf (now (g .entry)) (mapped (now (mem .entry))) pc op z ⌝ }
+{
+    let mode = op / 8 % 8;
+    if mode < 2 {
+        return Reading::Read(cut(z, general(g, op)), plus(pc, 0), no_write());
+    }
+    let Spot::At(b, next, moved) = readable(z, g, mem, pc, op) else {
+        return Reading::Far;
+    };
+    match load(mem, b, z) {
+        Got::Value(v) => Reading::Read(v, next, moved),
+        Got::Fault(_) => Reading::Far,
+    }
+}
+
+// The same of a long. Apart, so that a compiler puts it into each body: `read` has one other caller, and is put there.
+pub fn read_long(g: &[u32; 16], mem: &[u8], pc: u32, op: u32) -> Reading
+    ensures { λ r. ⌜ asRead r (sourceOf (now (g .entry)) (mapped (now (mem .entry))) pc op Long) ≡ sourceOf (now (g .entry)) (mapped (now (mem .entry))) pc op Long ⌝ }
+{
+    read(Size::Long, g, mem, pc, op)
+}

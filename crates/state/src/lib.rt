@@ -1,0 +1,4 @@
+// The state: its status register and what is admitted, the fresh state, and the numbers of replies.
+pub mod fresh;
+pub mod replies;
+pub mod status;
