@@ -1,5 +1,5 @@
 // Line 4: its bodies, and the line by its rows.
 pub mod control;
-pub mod rows4;
+pub mod line4;
 pub mod single;
 pub mod status;

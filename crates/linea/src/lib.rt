@@ -1,3 +1,3 @@
+pub mod linea;
 pub mod mac;
 mod moves;
-pub mod rowsa;

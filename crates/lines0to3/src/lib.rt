@@ -1,3 +1,3 @@
 mod bits;
 pub mod line0;
-pub mod moves;
+pub mod lines1to3;

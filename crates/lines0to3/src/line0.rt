@@ -183,7 +183,8 @@ fn bit_by_immediate(g: &[u32; 16], at: u32, sr: u16, mem: &[u8], op: u32) -> Cha
     bitop(g, plus(at, 4), sr, mem, op, n)
 }
 
-pub fn line0(row: u8, g: &[u32; 16], at: u32, sr: u16, mem: &[u8], op: u32) -> Change
+// What a word of line 0 changes, taken for the instruction of a row.
+pub fn instruction(row: u8, g: &[u32; 16], at: u32, sr: u16, mem: &[u8], op: u32) -> Change
     ensures { λ e. ⌜ e ≡ line0Of row (now (g .entry)) at sr (mapped (now (mem .entry))) op ⌝ }
 {
     match row {

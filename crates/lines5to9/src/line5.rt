@@ -95,7 +95,8 @@ fn skip(n: u32, at: u32, sr: u16) -> Change
     jump(sr, plus(at, 2 + n))
 }
 
-pub fn line5(row: u8, g: &[u32; 16], at: u32, sr: u16, mem: &[u8], op: u32) -> Change
+// What a word of line 5 changes, taken for the instruction of a row.
+pub fn instruction(row: u8, g: &[u32; 16], at: u32, sr: u16, mem: &[u8], op: u32) -> Change
     ensures { λ e. ⌜ e ≡ line5Of row (now (g .entry)) at sr (mapped (now (mem .entry))) op ⌝ }
 {
     match row {

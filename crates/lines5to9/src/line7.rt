@@ -58,7 +58,8 @@ fn mvz(g: &[u32; 16], at: u32, sr: u16, mem: &[u8], op: u32) -> Change
     done(next, codes, first, write_data(op / 512, v))
 }
 
-pub fn line7(row: u8, g: &[u32; 16], at: u32, sr: u16, mem: &[u8], op: u32) -> Change
+// What a word of line 7 changes, taken for the instruction of a row.
+pub fn instruction(row: u8, g: &[u32; 16], at: u32, sr: u16, mem: &[u8], op: u32) -> Change
     ensures { λ e. ⌜ e ≡ line7Of row (now (g .entry)) at sr (mapped (now (mem .entry))) op ⌝ }
 {
     match row {

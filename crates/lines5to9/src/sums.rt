@@ -1,5 +1,6 @@
 // Sums and differences: ADD, ADDA, ADDX, SUB, SUBA, SUBX, and what ADDQ and SUBQ do to a place.
 use address::changes::done;
+use address::changes::illegal;
 use address::changes::put;
 use address::changes::refused;
 use address::operands::extension;
@@ -28,9 +29,10 @@ use word::word::sign_extended;
 use word::word::size_of;
 ghost use mathlib.Core.Path.{_≡_};
 ghost use Prim.Native.Nat.{_+_, _*_, _/_, _%_};
-ghost use Rattle.instructions.specs.Line9D.{toData, toPlace, toMemory, moreOrLess, toAddress, withX};
+ghost use Rattle.instructions.specs.Line9D.{toData, toPlace, toMemory, moreOrLess, toAddress, withX, sums as sumsOf};
 ghost use Rattle.manual.specs.Memory.{mapped};
 ghost use Rattle.manual.specs.Differences.{anySize};
+ghost use Rattle.instructions.specs.Rows.{placeIn};
 
 pub fn to_data(add: bool, g: &[u32; 16], at: u32, mem: &[u8], op: u32) -> Change
     ensures { λ e. ⌜ e ≡ toData add (now (g .entry)) at (mapped (now (mem .entry))) op ⌝ }
@@ -124,4 +126,42 @@ pub fn with_x(add: bool, g: &[u32; 16], at: u32, sr: u16, op: u32) -> Change
         none,
         write_data(op / 512, merged(z, old, r.value)),
     )
+}
+
+// A row's place in a line, and past all places for a row of another line.
+fn place_in(first: u8, row: u8) -> u8
+    ensures { λ r. ⌜ r ≡ placeIn first row ⌝ }
+{
+    if row < first {
+        rows::ROW_COUNT
+    } else {
+        row - first
+    }
+}
+
+// Lines 9 and D by their rows: with X, three that are illegal, to An, to Dn, to memory.
+pub(crate) fn by_row(
+    first: u8,
+    add: bool,
+    row: u8,
+    g: &[u32; 16],
+    at: u32,
+    sr: u16,
+    mem: &[u8],
+    op: u32,
+) -> Change
+    ensures { λ e. ⌜ e ≡ sumsOf first add row (now (g .entry)) at sr (mapped (now (mem .entry))) op ⌝ }
+{
+    match place_in(first, row) {
+        0 => with_x(add, g, at, sr, op),
+        1 => with_x(add, g, at, sr, op),
+        2 => with_x(add, g, at, sr, op),
+        3 => illegal(at, sr),
+        4 => illegal(at, sr),
+        5 => illegal(at, sr),
+        6 => to_address(add, Size::Word, g, at, sr, mem, op),
+        7 => to_address(add, Size::Long, g, at, sr, mem, op),
+        8 => to_data(add, g, at, mem, op),
+        _ => to_memory(add, g, at, mem, op),
+    }
 }

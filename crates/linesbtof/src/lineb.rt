@@ -88,7 +88,8 @@ pub(crate) fn logic_to_place(
     put(g, next, codes, first, no_write(), place, z, r)
 }
 
-pub fn lineb(row: u8, g: &[u32; 16], at: u32, sr: u16, mem: &[u8], op: u32) -> Change
+// What a word of line B changes, taken for the instruction of a row.
+pub fn instruction(row: u8, g: &[u32; 16], at: u32, sr: u16, mem: &[u8], op: u32) -> Change
     ensures { λ e. ⌜ e ≡ lineBOf row (now (g .entry)) at sr (mapped (now (mem .entry))) op ⌝ }
 {
     match row {

@@ -49,7 +49,8 @@ pub fn shift(signs: bool, g: &[u32; 16], at: u32, sr: u16, op: u32) -> Change
     done(next, codes, no_write(), write_data(op, s.value))
 }
 
-pub fn linee(row: u8, g: &[u32; 16], at: u32, sr: u16, op: u32) -> Change
+// What a word of line E changes, taken for the instruction of a row.
+pub fn instruction(row: u8, g: &[u32; 16], at: u32, sr: u16, op: u32) -> Change
     ensures { λ e. ⌜ e ≡ lineEOf row (now (g .entry)) at sr op ⌝ }
 {
     match row {

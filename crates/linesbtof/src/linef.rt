@@ -68,7 +68,8 @@ fn wddata(g: &[u32; 16], at: u32, sr: u16, mem: &[u8], op: u32) -> Change
     }
 }
 
-pub fn linef(row: u8, g: &[u32; 16], at: u32, sr: u16, mem: &[u8], op: u32) -> Change
+// What a word of line F changes, taken for the instruction of a row.
+pub fn instruction(row: u8, g: &[u32; 16], at: u32, sr: u16, mem: &[u8], op: u32) -> Change
     ensures { λ e. ⌜ e ≡ lineFOf row (now (g .entry)) at sr (mapped (now (mem .entry))) op ⌝ }
 {
     match row {

@@ -1,0 +1,97 @@
+// Line 4 by its rows.
+use super::control::jmp;
+use super::control::jsr;
+use super::control::lea;
+use super::control::link;
+use super::control::movem;
+use super::control::nop;
+use super::control::pea;
+use super::control::rts;
+use super::control::trap;
+use super::control::unlk;
+use super::single::clr;
+use super::single::div_l;
+use super::single::ext_l;
+use super::single::ext_w;
+use super::single::extb;
+use super::single::mul_l;
+use super::single::neg;
+use super::single::negx;
+use super::single::not;
+use super::single::sats;
+use super::single::swap;
+use super::single::tas;
+use super::single::tst;
+use super::status::from_ccr;
+use super::status::from_sr;
+use super::status::from_usp;
+use super::status::halt;
+use super::status::rte;
+use super::status::stldsr;
+use super::status::stop;
+use super::status::to_ccr;
+use super::status::to_sr;
+use super::status::to_usp;
+use address::changes::illegal;
+use address::changes::not_carried;
+use manual::Change;
+ghost use mathlib.Core.Path.{_≡_};
+ghost use Prim.Native.Nat.{_+_, _*_, _/_, _%_, _<_};
+ghost use Rattle.manual.specs.Memory.{mapped};
+ghost use Rattle.instructions.specs.Line4.{line4 as line4Of};
+
+// What a word of line 4 changes, taken for the instruction of a row.
+pub fn instruction(
+    row: u8,
+    g: &[u32; 16],
+    at: u32,
+    sr: u16,
+    other: u32,
+    mem: &[u8],
+    op: u32,
+) -> Change
+    ensures { λ e. ⌜ e ≡ line4Of row (now (g .entry)) at sr other (mapped (now (mem .entry))) op ⌝ }
+{
+    match row {
+        rows::NOP => nop(at, sr),
+        rows::STOP => stop(at, sr, mem),
+        rows::RTE => rte(at, sr),
+        rows::RTS => rts(g, sr, mem),
+        rows::MOVEC_READ => not_carried(),
+        rows::MOVEC_WRITE => not_carried(),
+        rows::HALT => halt(at, sr),
+        rows::PULSE => nop(at, sr),
+        rows::ILLEGAL => illegal(at, sr),
+        rows::STLDSR => stldsr(at, sr, mem),
+        rows::EXTB => extb(g, at, sr, op),
+        rows::LINK => link(g, at, sr, mem, op),
+        rows::UNLK => unlk(g, at, sr, mem, op),
+        rows::TO_USP => to_usp(g, at, sr, op),
+        rows::FROM_USP => from_usp(at, sr, other, op),
+        rows::FROM_CCR => from_ccr(g, at, sr, op),
+        rows::SWAP => swap(g, at, sr, op),
+        rows::EXT_W => ext_w(g, at, sr, op),
+        rows::EXT_L => ext_l(g, at, sr, op),
+        rows::SATS => sats(g, at, sr, op),
+        rows::NEGX => negx(g, at, sr, op),
+        rows::NEG => neg(g, at, op),
+        rows::NOT => not(g, at, sr, op),
+        rows::TRAP => trap(at, sr, op),
+        rows::JSR => jsr(g, at, sr, mem, op),
+        rows::JMP => jmp(g, at, sr, mem, op),
+        rows::FROM_SR => from_sr(g, at, sr, op),
+        rows::ILL_42C0 => illegal(at, sr),
+        rows::TO_CCR => to_ccr(g, at, mem, op),
+        rows::TO_SR => to_sr(g, at, sr, mem, op),
+        rows::PEA => pea(g, at, sr, mem, op),
+        rows::MOVEM_STORE => movem(true, g, at, sr, mem, op),
+        rows::MOVEM_LOAD => movem(false, g, at, sr, mem, op),
+        rows::MUL_L => mul_l(g, at, sr, mem, op),
+        rows::DIV_L => div_l(g, at, sr, mem, op),
+        rows::TAS => tas(g, at, sr, mem, op),
+        rows::CLR => clr(g, at, sr, mem, op),
+        rows::TST => tst(g, at, sr, mem, op),
+        rows::LEA => lea(g, at, sr, mem, op),
+        _ => illegal(at, sr),
+    }
+}

@@ -1,0 +1,49 @@
+use Prim.Native.Nat.{ℕ, _≤_}
+use native.Mathlib.Omega.{arith}
+use lib.ListN.{List·getD-eq-default}
+use Rattle.word.specs.TestLaws.{other-row}
+use Rattle.instructions.specs.Rows.{rowCount, firstRow, placeIn}
+use Rattle.instructions.specs.LineA.{lineA as lineAOf}
+use Rattle.linea.proofs.linea.instruction.Statement.{statement}
+use Rattle.linea.proofs.linea.instruction.Tie as tie
+
+returns-13 : tie.Need-returns-13
+unfolding lineAOf placeIn
+returns-13 c =
+    let row : ℕ = c .before .before .before .args .row in
+    let past : 12 ≤ placeIn (firstRow 0xA) row = other-row (firstRow 0xA) 12 rowCount row (omega arith) (c .before .match .rest) in
+    rw List·getD-eq-default (c .unassigned .ensures)
+
+pub instruction-spec : {M : Type 1} → statement M
+unfolding lineAOf placeIn
+instruction-spec =
+    tie.close
+    (tie.spec
+    (λ c κs. tt)
+    (λ c κs. tt)
+    (λ c κs. tt)
+    (λ c κs. tt)
+    (λ c κs. tt)
+    (λ c κs. tt)
+    (λ c κs. tt)
+    (λ c κs. tt)
+    (λ c κs. tt)
+    (λ c κs. tt)
+    (λ c κs. tt)
+    (λ c κs. tt)
+    (λ c κs. tt)
+    (λ c κs. tt)
+    (λ c κs. tt)
+    (λ c. rw (c .before .match .keys1, ← c .macsr-to-ccr .ensures))
+    (λ c. rw (c .before .match .keys2, ← c .copy .ensures))
+    (λ c. rw (c .before .match .keys3, ← c .to-general .ensures))
+    (λ c. rw (c .before .match .keys4, ← c .to-general2 .ensures))
+    (λ c. rw (c .before .before .match .keys5) (rw (c .before .unit .ensures) at (c .from-ext .ensures)))
+    (λ c. rw (c .before .match .keys6, ← c .to-emac .ensures))
+    (λ c. rw (c .before .match .keys7, ← c .to-emac2 .ensures))
+    (λ c. rw (c .before .before .match .keys8, ← c .before .unit2 .ensures, ← c .from-acc .ensures))
+    (λ c. rw (c .before .match .keys9, ← c .to-emac3 .ensures))
+    (λ c. rw (c .before .match .keys10, ← c .to-emac4 .ensures))
+    (λ c. rw (c .before .match .keys11, ← c .mov3q .ensures))
+    (λ c. rw (c .before .match .keys12, ← c .mac .ensures))
+    returns-13)

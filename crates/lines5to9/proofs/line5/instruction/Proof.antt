@@ -1,0 +1,40 @@
+use Prim.Native.Nat.{ℕ, _≤_}
+use native.Mathlib.Omega.{arith}
+use lib.ListN.{List·getD-eq-default}
+use Rattle.word.specs.TestLaws.{other-row}
+use Rattle.instructions.specs.Rows.{rowCount, firstRow, placeIn}
+use Rattle.instructions.specs.Line5.{line5 as line5Of}
+use borrow.Author.Needs.{needs}
+use Rattle.lines5to9.proofs.line5.instruction.Statement.{statement}
+use Rattle.lines5to9.proofs.line5.instruction.Tie as tie
+
+returns-9 : tie.Need-returns-9
+unfolding line5Of placeIn
+returns-9 c =
+    let row : ℕ = c .before .before .before .args .row in
+    let past : 8 ≤ placeIn (firstRow 5) row = other-row (firstRow 5) 8 rowCount row (omega arith) (c .before .match .rest) in
+    rw List·getD-eq-default (c .quick .ensures)
+
+pub instruction-spec : {M : Type 1} → statement M
+unfolding line5Of placeIn
+instruction-spec =
+    tie.close
+    (tie.spec
+    (λ c κs. search needs)
+    (λ c κs. search needs)
+    (λ c κs. search needs)
+    (λ c κs. tt)
+    (λ c κs. tt)
+    (λ c κs. tt)
+    (λ c κs. tt)
+    (λ c κs. tt)
+    (λ c κs. tt)
+    (λ c. rw (c .before .match .keys1, ← c .skip .ensures))
+    (λ c. rw (c .before .match .keys2, ← c .skip2 .ensures))
+    (λ c. rw (c .before .match .keys3, ← c .skip3 .ensures))
+    (λ c. rw (c .before .match .keys4, ← c .quick-address .ensures))
+    (λ c. rw (c .before .match .keys5, ← c .quick-address2 .ensures))
+    (λ c. rw (c .before .match .keys6, ← c .quick-address3 .ensures))
+    (λ c. rw (c .before .match .keys7, ← c .scc .ensures))
+    (λ c. rw (c .before .match .keys8, ← c .illegal .ensures))
+    returns-9)
