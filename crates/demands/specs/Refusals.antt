@@ -65,7 +65,7 @@ pub record Refusals : Type 0 where
   pub of-set-macsr : (s : Cpu) (v : ℕ) → NotZero (setMacsrCall s v .reply) → setMacsrCall s v .cpu ≡ s
   pub of-read-block : (b : List ℕ) → NotZero (readBlock b .reply) → readBlock b .cpu ≡ fresh
   pub of-store-block : (s : Cpu) (b : List ℕ) → NotZero (storeBlock s b .reply) → storeBlock s b .bytes ≡ b
-  pub of-load-image : (f m : List ℕ) → NotZero (loadImage f m .reply) → ((loadImage f m .cpu ≡ fresh) × (loadImage f m .memory ≡ m)) × (loadImage f m .budget ≡ 0)
+  pub of-load-image : (f m : List ℕ) → NotZero (loadImage f m .reply) → ((loadImage f m .cpu ≡ fresh) × (loadImage f m .storage ≡ m)) × (loadImage f m .budget ≡ 0)
 
 -- ---- the proofs: each is a tree of tests, whose leaves are done or unchanged
 
@@ -299,13 +299,13 @@ store-kept : (s : Cpu) (b : List ℕ) → NotZero (storeBlock s b .reply) → st
 unfolding storeBlock
 store-kept s b h = store-by (eqb (length b) 128) (admitted s) (blockOf s) b h
 
-load-kept : (f m : List ℕ) → NotZero (loadImage f m .reply) → ((loadImage f m .cpu ≡ fresh) × (loadImage f m .memory ≡ m)) × (loadImage f m .budget ≡ 0)
+load-kept : (f m : List ℕ) → NotZero (loadImage f m .reply) → ((loadImage f m .cpu ≡ fresh) × (loadImage f m .storage ≡ m)) × (loadImage f m .budget ≡ 0)
 unfolding loadImage
 load-kept f m = by (eqb (length m) imageMemory) (imageReply f)
   where
     inner : (b : Bool) (n : Reply) → isDone n ≡ b
         → let i : Image = cond b (image n (imageBudget f) (imageState f) (imageBytes f)) (notLoaded n m) in
-        NotZero n → ((i .cpu ≡ fresh) × (i .memory ≡ m)) × (i .budget ≡ 0)
+        NotZero n → ((i .cpu ≡ fresh) × (i .storage ≡ m)) × (i .budget ≡ 0)
     inner true n e h = absurd (done-not (rw (is-done n e) at h))
     inner false n e h = ((refl, refl), refl)
 
@@ -315,7 +315,7 @@ load-kept f m = by (eqb (length m) imageMemory) (imageReply f)
 
     by : (a : Bool) (n : Reply)
         → let i : Image = cond a (cond (isDone n) (image n (imageBudget f) (imageState f) (imageBytes f)) (notLoaded n m)) (notLoaded WrongLength m) in
-        NotZero (i .reply) → ((i .cpu ≡ fresh) × (i .memory ≡ m)) × (i .budget ≡ 0)
+        NotZero (i .reply) → ((i .cpu ≡ fresh) × (i .storage ≡ m)) × (i .budget ≡ 0)
     by true n h = inner (isDone n) n refl (rw (same (isDone n) n) at h)
     by false n h = ((refl, refl), refl)
 

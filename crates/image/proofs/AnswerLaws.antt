@@ -7,6 +7,7 @@ use Rattle.manual.specs.declared.Cpu.{Cpu}
 use Rattle.manual.specs.declared.Ran.{Ran}
 use Rattle.manual.specs.declared.Reply.{Reply}
 use Rattle.manual.specs.Reply.{isDone}
+use Rattle.manual.specs.Lent.{lent}
 use Rattle.manual.specs.Image.{Printed, image, loadImage, answerLine, runText, textOf}
 use Rattle.instructions.specs.Run.{runOutcome, run}
 use Rattle.image.specs.ImageRun.{imageRan, imageRun, ranText}
@@ -17,6 +18,6 @@ unfolding imageRun
 refused-is f m m′ n b s t loaded refused text = rw (← loaded, refused, text)
 
 pub ran-is : (f m m′ m″ : List ℕ) (n : Reply) (b : ℕ) (s : Cpu) (r : Ran) (t : Printed)
-    → image n b s m′ ≡ loadImage f m → isDone n ≡ true → runOutcome r m″ ≡ run b s m′ → t ≡ textOf (runText (r .reply) (r .count) (r .cpu)) → imageRan t m″ ≡ imageRun f m
+    → image n b s m′ ≡ loadImage f m → isDone n ≡ true → runOutcome r m″ ≡ run b s (lent m′) → t ≡ textOf (runText (r .reply) (r .count) (r .cpu)) → imageRan t m″ ≡ imageRun f m
 unfolding imageRun ranText
 ran-is f m m′ m″ n b s r t loaded done ran text = rw (← loaded, done, ← ran, text)

@@ -7,6 +7,7 @@ use native.Mathlib.Omega.{arith}
 use lib.ListN.{length, take, replicate, length-append}
 use lib.Seq.{length-take-le}
 use Rattle.manual.specs.Reply.{isDone}
+use Rattle.manual.specs.Lent.{lent}
 use Rattle.manual.specs.Image.{Image, Printed, printed, loadImage, answerLine, textOf}
 use Rattle.instructions.specs.Run.{RunOutcome, run}
 use Rattle.image.specs.ImageRun.{ImageRan, imageRan, imageRun, ranText}
@@ -28,7 +29,7 @@ pub text-inside : (f m m′ b : List ℕ) (n : ℕ) → imageRan (printed b n) m
 unfolding imageRun
 text-inside f m m′ b n e =
     let i : Image = loadImage f m in
-    either-in (isDone (i .reply)) (run (i .budget) (i .cpu) (i .memory)) (answerLine (i .reply)) b (i .memory) m′ n e
+    either-in (isDone (i .reply)) (run (i .budget) (i .cpu) (lent (i .storage))) (answerLine (i .reply)) b (i .storage) m′ n e
 
 pub text-counted : (f m m′ b : List ℕ) (n : ℕ) → imageRan (printed b n) m′ ≡ imageRun f m → n ≡ length (take n b)
 text-counted f m m′ b n e = sym (length-take-le n b (text-inside f m m′ b n e))

@@ -236,7 +236,7 @@ module _ (left k : ℕ) (o : Outcome) (l : Lent) where
   steps-from = steps left (o .stepped .cpu) (lentOn l (o .storage))
 
   step-more : (b : Bool) → asRun on-from ≡ after (k + 1) steps-from
-      → asRun (cond b on-from (advance (endedAs (o .stepped .reply) k 0 (o .stepped .cpu)) (o .memory)))
+      → asRun (cond b on-from (advance (endedAs (o .stepped .reply) k 0 (o .stepped .cpu)) (o .storage)))
       ≡ after k (cond b (afterOne steps-from) (ended (o .stepped .reply) 0 (o .stepped .cpu) (o .storage)))
   step-more true h = h ∙ counted (k + 1 + steps-from .ran .count) (k + suc (steps-from .ran .count)) _ _ _ (omega arith)
   step-more false h = counted k (k + 0) (o .stepped .reply) (o .stepped .cpu) (o .storage) (omega arith)

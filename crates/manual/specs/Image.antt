@@ -9,7 +9,7 @@ use Rattle.manual.specs.declared.Cpu.{Cpu}
 use Rattle.manual.specs.declared.Reply.{Reply}
 use Rattle.manual.specs.declared.Reply.the-variants.{Done, NotAdmitted, WrongVersion, WrongLength}
 use Rattle.manual.specs.Registers.{withAddress, withPc, withSr}
-use Rattle.manual.specs.Memory.{valueAt}
+use Rattle.manual.specs.Memory.{Storage, valueAt}
 use Rattle.manual.specs.Admitted.{admitted}
 use Rattle.manual.specs.Reply.{numberOf, isDone}
 use Rattle.manual.specs.Block.{fresh}
@@ -38,30 +38,30 @@ abbrev pub imageBudget : List ℕ → ℕ
 imageBudget f = valueAt f 15 4
 
 -- the file's bytes at address 0, and zeros up to 49,152
-unfoldable pub imageBytes : List ℕ → List ℕ
+unfoldable pub imageBytes : List ℕ → Storage
 imageBytes f = drop 19 f ++ replicate (imageMemory - (length f - 19)) 0
 
--- what a read of a file gives: the reply, the budget, the state, and memory after it
+-- what a read of a file gives: the reply, the budget, the state, and storage after it
 pub record Image : Type 0 where
   pub reply : Reply
   pub budget : ℕ
   pub cpu : Cpu
-  pub memory : List ℕ
+  pub storage : Storage
 
-abbrev pub image : Reply → ℕ → Cpu → List ℕ → Image
-image n budget s m = record { reply = n; budget = budget; cpu = s; memory = m }
+abbrev pub image : Reply → ℕ → Cpu → Storage → Image
+image n budget s b = record { reply = n; budget = budget; cpu = s; storage = b }
 
--- refused: no budget, the fresh state, and memory as given
-abbrev pub notLoaded : Reply → List ℕ → Image
-notLoaded n m = image n 0 fresh m
+-- refused: no budget, the fresh state, and storage as given
+abbrev pub notLoaded : Reply → Storage → Image
+notLoaded n b = image n 0 fresh b
 
--- a memory of 49,152 bytes takes the file, whatever is in it; any other is refused with 9, whatever the file
-unfoldable pub loadImage : List ℕ → List ℕ → Image
-loadImage f m =
+-- storage of 49,152 bytes takes the file, whatever is in it; any other is refused with 9, whatever the file
+unfoldable pub loadImage : List ℕ → Storage → Image
+loadImage f b =
     let n : Reply = imageReply f in
-    cond (eqb (length m) imageMemory)
-    (cond (isDone n) (image n (imageBudget f) (imageState f) (imageBytes f)) (notLoaded n m))
-    (notLoaded WrongLength m)
+    cond (eqb (length b) imageMemory)
+    (cond (isDone n) (image n (imageBudget f) (imageState f) (imageBytes f)) (notLoaded n b))
+    (notLoaded WrongLength b)
 
 -- ---- the text, as bytes
 

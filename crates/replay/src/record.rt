@@ -66,7 +66,7 @@ fn expected(head: &[u8; 16]) -> u64
 
 // Whether the call answers what the head expects, on as much of the block and the memory as it says.
 fn answers(head: &[u8; 16], block: &mut [u8], mem: &mut [u8]) -> bool
-    ensures { λ r. ⌜ (r ≡ eqb (answered (now (head .entry)) (now (block .entry)) (now (mem .entry)) .answer) (valueAt (now (head .entry)) 10 5)) × (now (block .exit) ≡ answered (now (head .entry)) (now (block .entry)) (now (mem .entry)) .block) × (now (mem .exit) ≡ answered (now (head .entry)) (now (block .entry)) (now (mem .entry)) .memory) ⌝ }
+    ensures { λ r. ⌜ (r ≡ eqb (answered (now (head .entry)) (now (block .entry)) (now (mem .entry)) .answer) (valueAt (now (head .entry)) 10 5)) × (now (block .exit) ≡ answered (now (head .entry)) (now (block .entry)) (now (mem .entry)) .block) × (now (mem .exit) ≡ answered (now (head .entry)) (now (block .entry)) (now (mem .entry)) .storage) ⌝ }
 {
     let b = least(wide(head[3]), block.len());
     let m = least(wide(head[4]) * 256 + wide(head[5]), mem.len());
