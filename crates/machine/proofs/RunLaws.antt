@@ -95,7 +95,7 @@ pub record Turn (b k v : ℕ) (whole : Advance) (g : List ℕ) (pc sr : ℕ) (e 
   pub ready : isDone (firstRefusal (withParts g pc sr e rest) l) ≡ true
   pub inv : progress (b - k) k v (withParts g pc sr e rest) l ≡ whole
 
-module _ (b k v : ℕ) (whole : Advance) (g : List ℕ) (pc sr : ℕ) (e : Emac) (rest : Cpu) (l : Lent) (t : Turn b k v whole g pc sr e rest l) where
+module _ {b k v : ℕ} {whole : Advance} {g : List ℕ} {pc sr : ℕ} {e : Emac} {rest : Cpu} {l : Lent} (t : Turn b k v whole g pc sr e rest l) where
   abbrev now : Cpu
   now = withParts g pc sr e rest
 
@@ -133,7 +133,7 @@ pub record Fetched (b k v : ℕ) (whole : Advance) (g : List ℕ) (pc sr : ℕ) 
   pub word : load (memoryOf l) pc Word ≡ Value op
   pub is-row : row ≡ rowOf op
 
-module _ (b k v : ℕ) (whole : Advance) (g : List ℕ) (pc sr : ℕ) (e : Emac) (rest : Cpu) (l : Lent) (op row : ℕ) (t : Fetched b k v whole g pc sr e rest l op row) where
+module _ {b k v : ℕ} {whole : Advance} {g : List ℕ} {pc sr : ℕ} {e : Emac} {rest : Cpu} {l : Lent} {op row : ℕ} (t : Fetched b k v whole g pc sr e rest l op row) where
   abbrev here : Cpu
   here = withParts g pc sr e rest
 
@@ -145,7 +145,7 @@ module _ (b k v : ℕ) (whole : Advance) (g : List ℕ) (pc sr : ℕ) (e : Emac)
   fetched = rw (t .word, t .is-row) (of-row g pc sr (rest .other) e (memoryOf l) op)
 
   is-step : step here l ≡ perform here c (memoryOf l)
-  is-step = any b k v whole g pc sr e rest l (t .turn) (t .going) c fetched
+  is-step = any (t .turn) (t .going) c fetched
 
   -- on the whole state
   pub performed : (r : Stepped) (m′ : Storage) (s : Cpu) → s ≡ here → outcome r m′ ≡ perform s (ofRow row (s .r) (s .pc) (s .sr) (s .other) (s .emac) (memoryOf l) op) (memoryOf l)
@@ -167,7 +167,7 @@ module _ (b k v : ℕ) (whole : Advance) (g : List ℕ) (pc sr : ℕ) (e : Emac)
   stops-here r m′ h d = stops b k v whole here l (t .turn .inv) r m′ (t .turn .more) h d
 
 -- in parts: what is done in place is the step, and what is left undone leaves the turn as it was
-module _ (b k v : ℕ) (whole : Advance) (g : List ℕ) (pc sr macsr mask : ℕ) (acc : List ℕ) (rest : Cpu) (l : Lent) (op row : ℕ)
+module _ {b k v : ℕ} {whole : Advance} {g : List ℕ} {pc sr : ℕ} {rest : Cpu} {l : Lent} {op row : ℕ} (macsr mask : ℕ) (acc : List ℕ)
     (t : Fetched b k v whole g pc sr (emacOf macsr mask acc) rest l op row) (g′ acc′ : List ℕ) (m′ : Storage) where
   abbrev unit : Emac
   unit = emacOf macsr mask acc
@@ -189,7 +189,7 @@ module _ (b k v : ℕ) (whole : Advance) (g : List ℕ) (pc sr macsr mask : ℕ)
   as-placed : (pc′ sr′ : ℕ) → (effected (OnPlace pc′ sr′) g′ m′ ≡ inPlace change sr g (memoryOf l)) × (acc′ ≡ acc)
       → completed (withParts g′ pc′ sr′ (emacOf macsr mask acc′) rest) 0 m′ ≡ goal
   as-placed pc′ sr′ p =
-      rw (p .1) (place.performed g pc sr unit rest (memoryOf l) change pc′ sr′ g′ m′ (p .0) ∙ sym (is-step b k v whole g pc sr unit rest l op row t))
+      rw (p .1) (place.performed g pc sr unit rest (memoryOf l) change pc′ sr′ g′ m′ (p .0) ∙ sym (is-step t))
 
   module _ (r : Attempt) (w : all r sr macsr mask g′ acc′ m′ ≡ agreedWhole r change sr macsr mask g acc (memoryOf l)) where
     h : Attempted change sr macsr mask g acc (memoryOf l) g′ acc′ m′ r
@@ -205,7 +205,7 @@ module _ (b k v : ℕ) (whole : Advance) (g : List ℕ) (pc sr macsr mask : ℕ)
     in-unit pc′ macsr′ q =
         let p : (afterMac (OnUnit pc′ macsr′) sr macsr mask acc′ g′ ≡ inUnit change sr unit g) × (m′ ≡ l .storage) = rw q at h in
         rw (p .1)
-        (summed-performed g pc sr unit rest (memoryOf l) change pc′ (emacOf macsr′ mask acc′) g′ (p .0) ∙ sym (is-step b k v whole g pc sr unit rest l op row t))
+        (summed-performed g pc sr unit rest (memoryOf l) change pc′ (emacOf macsr′ mask acc′) g′ (p .0) ∙ sym (is-step t))
 
   -- the same of the plain engine, which leaves the accumulators alone
   module _ (r : Effect) (h : effected r g′ m′ ≡ agreed r change sr g (memoryOf l)) (same : acc′ ≡ acc) where
