@@ -20,7 +20,7 @@ use Rattle.manual.specs.declared.Stored.the-variants.{Done as Taken, Fault as N
 use Rattle.manual.specs.declared.Reply.the-variants.{Done}
 use Rattle.manual.specs.Word.{bytes}
 use Rattle.manual.specs.Memory.{Memory, storageOf, valueAt, access, taken, found, load, numberIn, numberAt}
-use Rattle.manual.specs.Reply.{Outcome, unchanged, refusal, faultReply, accessing, loading, taking}
+use Rattle.manual.specs.Reply.{numberOf, Outcome, unchanged, refusal, faultReply, accessing, loading, taking}
 use Rattle.word.specs.TestLaws.{by-lt}
 use Rattle.memory.specs.MemoryLaws.{is-here, is-not, value-one, value-lt}
 use Rattle.demands.specs.Accesses.{Inside, Outside}
@@ -102,8 +102,11 @@ module _ (P : Outcome → Type 0) (given : Cpu) (m : Memory) (refused : (x : Fau
 
 -- ---- and what was done found its place
 
+pub fault-number : (x : Fault) → numberOf (faultReply x) ≡ 0 → ⊥
+fault-number Out e = omega arith
+
 pub fault-not : (x : Fault) → faultReply x ≡ Done → ⊥
-fault-not Out e = let z : _≡_ {A = ℕ} 0 1 = cc in omega arith
+fault-not x e = fault-number x (ap numberOf e)
 
 pub record Found (x : Access) (f : ℕ → Outcome) (o : Outcome) : Type 0 where
   pub place : ℕ

@@ -45,7 +45,7 @@ pub record Wanted : Type 0 where
 abbrev pub wanted : ℕ → ℕ → Wanted
 wanted a n = record { address = a; count = n }
 
--- an access of n bytes at a is inside, or it is not
+-- an access of n bytes at a is inside, or it is not (Exact says by the length when)
 abbrev pub Inside : Memory → ℕ → ℕ → Type 0
 Inside m a n = taken (access m a n) ≡ Taken
 

@@ -16,6 +16,8 @@ use Rattle.manual.specs.Image.{loadImage, runText, answerLine, textOf}
 use Rattle.instructions.specs.Step.{step}
 use Rattle.instructions.specs.Run.{run}
 use Rattle.emac_lent.specs.UnitCalls as unit
+use Rattle.harness.specs.Calls.{rteOn, exceptionOn, interruptOn}
+use Rattle.harness.specs.StepCalls.{stepOn, runOn}
 
 -- what a promise allows is what is equal to x; two such outcomes are equal
 abbrev pub Determined : {A : Type 0} → A → Type 0
@@ -99,3 +101,18 @@ run-text-determined n count s = determined (textOf (runText n count s))
 
 pub answer-text-determined : (n : Reply) → Determined (textOf (answerLine n))
 answer-text-determined n = determined (textOf (answerLine n))
+
+pub host-step-determined : (b : List ℕ) (l : Lent) → Determined (stepOn b l)
+host-step-determined b l = determined (stepOn b l)
+
+pub host-run-determined : (b : List ℕ) (l : Lent) (budget : ℕ) → Determined (runOn b l budget)
+host-run-determined b l budget = determined (runOn b l budget)
+
+pub host-rte-determined : (b : List ℕ) (l : Lent) → Determined (rteOn b l)
+host-rte-determined b l = determined (rteOn b l)
+
+pub host-exception-determined : (b : List ℕ) (l : Lent) (vector pc : ℕ) (level : Level) → Determined (exceptionOn b l vector pc level)
+host-exception-determined b l vector pc level = determined (exceptionOn b l vector pc level)
+
+pub host-interrupt-determined : (b : List ℕ) (l : Lent) (vector level : ℕ) → Determined (interruptOn b l vector level)
+host-interrupt-determined b l vector level = determined (interruptOn b l vector level)

@@ -30,6 +30,31 @@ module _ (l : Lent) where
       by true e = (λ h. absurd (false≢true h), λ n. absurd (n (ltb-true _ _ e)))
       by false e = (λ h. not-long e, λ n. refl)
 
+  -- a state that is not admitted, which is refused after what is lent
+  pub lent-1 : (numberOf (orElse (lentRefusal l) NotAdmitted) ≡ 1) ↔ TooLong l
+  unfolding lentRefusal
+  lent-1 = by (tooLong l) refl
+    where
+      by : (b : Bool) → tooLong l ≡ b → (numberOf (orElse (cond b Long Done) NotAdmitted) ≡ 1) ↔ TooLong l
+      by true e = (λ h. ltb-true _ _ e, λ o. refl)
+      by false e = (λ h. absurd (omega arith), λ o. absurd (not-long e o))
+
+  pub lent-2 : (numberOf (orElse (lentRefusal l) NotAdmitted) ≡ 2) ↔ Usable l
+  unfolding lentRefusal
+  lent-2 = by (tooLong l)
+    where
+      by : (b : Bool) → (numberOf (orElse (cond b Long Done) NotAdmitted) ≡ 2) ↔ (isDone (cond b Long Done) ≡ true)
+      by true = (λ h. absurd (omega arith), λ h. absurd (false≢true h))
+      by false = (λ h. refl, λ h. refl)
+
+  pub lent-of : OneOf (1 ∷ 2 ∷ []) (numberOf (orElse (lentRefusal l) NotAdmitted))
+  unfolding lentRefusal
+  lent-of = by (tooLong l)
+    where
+      by : (b : Bool) → OneOf (1 ∷ 2 ∷ []) (numberOf (orElse (cond b Long Done) NotAdmitted))
+      by true = inl refl
+      by false = inr (inl refl)
+
 -- ---- all of them
 
 module _ (s : Cpu) (l : Lent) where

@@ -17,6 +17,7 @@ pub mod StepReplies
 pub mod EntryReplies
 pub mod CallReplies
 pub mod ExactLaws
+pub mod Host
 pub mod Handmade
 pub mod Followed
 pub mod Engines

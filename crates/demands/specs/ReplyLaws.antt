@@ -32,7 +32,7 @@ use Rattle.manual.specs.Change.{notCarried, refuse}
 use Rattle.manual.specs.Exceptions.{setSr, handling, pcPlace, framePlace, entered, left}
 use Rattle.instructions.specs.Perform.{statusPushed, act, perform}
 use Rattle.demands.specs.Accesses.{Wanted, wanted, Inside, Outside, SomeOutside, this, another, entryAt, returnAt, manyLongs, leaves}
-use Rattle.demands.specs.AccessLaws.{taken-or-not, accessing-all, loading-all, taking-all}
+use Rattle.demands.specs.AccessLaws.{taken-or-not, fault-number, accessing-all, loading-all, taking-all}
 use Rattle.demands.specs.FirstReplies.{first-1, first-2, first-of}
 use Rattle.demands.specs.PartLaws.{refusing, accessAll, numberOr, some-outside}
 use Rattle.demands.specs.Exact.{numbered, TooLong, Usable, Ready, vectorOf, OneOf}
@@ -300,6 +300,28 @@ module _ (given s : Cpu) (m : Memory) where
   act-number (ClearAcc i) = refl
   act-number (Refuse n) = refl
 
+-- an action that is a refusal makes no access
+pub refusal-leaves : (s : Cpu) (a : Action) → (refusing a ≡ 0 → ⊥) → leaves s a ≡ []
+refusal-leaves s Nothing n = refl
+refusal-leaves s (Store a z v) n = absurd (n refl)
+refusal-leaves s (StoreMany regs a) n = absurd (n refl)
+refusal-leaves s (LoadMany regs a) n = absurd (n refl)
+refusal-leaves s (Enter vector pc) n = absurd (n refl)
+refusal-leaves s Return n = absurd (n refl)
+refusal-leaves s (Status v) n = refl
+refusal-leaves s (Stop v) n = refl
+refusal-leaves s (PushStatus v) n = absurd (n refl)
+refusal-leaves s Halt n = refl
+refusal-leaves s (Other v) n = refl
+refusal-leaves s (Accumulate i scale sub x y) n = refl
+refusal-leaves s (SetAcc i v) n = refl
+refusal-leaves s (SetExt i v) n = refl
+refusal-leaves s (SetMacsr v) n = refl
+refusal-leaves s (SetMask v) n = refl
+refusal-leaves s (CopyAcc from to) n = refl
+refusal-leaves s (ClearAcc i) n = refl
+refusal-leaves s (Refuse r) n = refl
+
 pub perform-number : (s : Cpu) (c : Change) (m : Memory) → numbered (perform s c m) ≡ numberOr (accessAll m (leaves (applied s c) (c .action))) (refusing (c .action))
 unfolding perform
 perform-number s c m = act-number s (applied s c) m (c .action)
@@ -321,7 +343,7 @@ Says v o = numbered o ≡ 0 → o .stepped .vector ≡ v
 module _ (given s : Cpu) (m : Memory) where
   fault-says : (v : ℕ) (x : Fault) → Says v (unchanged given (faultReply x) m)
   unfolding refusal
-  fault-says v Out e = absurd (omega arith)
+  fault-says v x e = absurd (fault-number x e)
 
   entered-says : (level : Level) (vector pc : ℕ) → Says vector (entered given s level vector pc m)
   unfolding entered

@@ -34,9 +34,9 @@ use Rattle.demands.specs.Refusals.{done-is}
 use Rattle.demands.specs.Runs.{runs}
 use Rattle.demands.specs.Admits.{admits}
 use Rattle.demands.specs.Accesses.{Access, access, SomeOutside, reads0, reads4, reads, leaves, accesses, Wanted, wanted, Inside}
-use Rattle.demands.specs.PartLaws.{missed, missed-some, missed-both, Made, accessAll, numberOr, some-outside, past-inside, both, all-both}
+use Rattle.demands.specs.PartLaws.{missed, missed-some, missed-both, Made, accessAll, numberOr, some-outside, past-inside, both, all-both, refusing}
 use Rattle.demands.specs.BodyLaws.{movecRead, movecWrite}
-use Rattle.demands.specs.AccessLaws.{word-lt}
+use Rattle.demands.specs.AccessLaws.{word-lt, fault-number}
 use Rattle.demands.specs.FirstReplies.{first-1, first-2, first-of}
 use Rattle.demands.specs.InstructionLaws.{Excused, instruction-made, excused-refused, movec-read, movec-write, mac-fits, mac-row}
 use Rattle.demands.specs.StepLaws.{doing, fetched, not-fetched, perform-refused, Stepped, stepped}
@@ -118,13 +118,15 @@ module _ (s : Cpu) (l : Lent) where
             (ap (λ (x : Stored). both x (accessAll m done-then)) (h .1 .1) ∙ ap (λ (c : Change). accessAll m (leaves (applied s c) (c .action))) (h .1 .0) ∙ laws.left-by-5 s m, (i, h .0)),
           )
 
-      after : (x y : Stored) (n : ℕ) → n ≡ numberOr x 0 → numberOr y n ≡ numberOr (both x y) 0
-      after Taken y n e = rw e
-      after (NotTaken x) Taken n e = e
-      after (NotTaken Out) (NotTaken Out) n e = refl
+      after : (x y : Stored) (n : ℕ) → n ≡ numberOr x 0 → ((n ≡ 0 → ⊥) → y ≡ Taken) → numberOr y n ≡ numberOr (both x y) 0
+      after Taken y n e k = rw e
+      after (NotTaken x) y n e k = ap (λ (z : Stored). numberOr z n) (k (λ z. fault-number x (sym e ∙ z))) ∙ e
 
       made : Made m own changing → Kind (numbered (perform s changing m)) (both (accessAll m own) (accessAll m done-then))
-      made h = inl (laws.perform-number s changing m ∙ after (accessAll m own) (accessAll m done-then) _ h)
+      made h =
+          inl
+          (laws.perform-number s changing m
+          ∙ after (accessAll m own) (accessAll m done-then) (refusing (changing .action)) h (λ n. ap (accessAll m) (laws.refusal-leaves (applied s changing) (changing .action) n)))
 
   acted-kind : Kind (numbered acted) all
   unfolding refusal
