@@ -154,14 +154,14 @@ module _ {b k v : ℕ} {whole : Advance} {g : List ℕ} {pc sr : ℕ} {e : Emac}
   performed r m′ s q h = (rw q at h) ∙ sym is-step
 
   -- a step that was done: the next turn is as ready as this one, and what is left of the run is what was due
-  pub ready-on : (r : Stepped) (m′ : Storage) → length m′ ≡ length (l .storage) → outcome r m′ ≡ step here l → isDone (firstRefusal (r .cpu) (lentOn l m′)) ≡ true
-  ready-on r m′ same h =
-      first-kept here (r .cpu) l m′ same
-      (ap (λ (o : Outcome). admitted (o .stepped .cpu)) (h ∙ is-step) ∙ perform-admitted here c (memoryOf l) (first-admitted here l (t .turn .ready)))
-      (t .turn .ready)
-
-  pub goes-on : (r : Stepped) (m′ : Storage) → outcome r m′ ≡ step here l → isDone (r .reply) ≡ true → progress (b - (k + 1)) (k + 1) (r .vector) (r .cpu) (lentOn l m′) ≡ whole
-  goes-on r m′ h d = on b k v whole here l (t .turn .inv) r m′ (t .turn .more) h d
+  pub goes-on : (r : Stepped) (m′ : Storage) → length m′ ≡ length (l .storage) → outcome r m′ ≡ step here l → isDone (r .reply) ≡ true
+      → (isDone (firstRefusal (r .cpu) (lentOn l m′)) ≡ true) × (progress (b - (k + 1)) (k + 1) (r .vector) (r .cpu) (lentOn l m′) ≡ whole)
+  goes-on r m′ same h d = (
+    first-kept here (r .cpu) l m′ same
+        (ap (λ (o : Outcome). admitted (o .stepped .cpu)) (h ∙ is-step) ∙ perform-admitted here c (memoryOf l) (first-admitted here l (t .turn .ready)))
+        (t .turn .ready),
+    on b k v whole here l (t .turn .inv) r m′ (t .turn .more) h d,
+  )
 
   pub stops-here : (r : Stepped) (m′ : Storage) → outcome r m′ ≡ step here l → isDone (r .reply) ≡ false → advance (endedAs (r .reply) k 0 (r .cpu)) m′ ≡ whole
   stops-here r m′ h d = stops b k v whole here l (t .turn .inv) r m′ (t .turn .more) h d

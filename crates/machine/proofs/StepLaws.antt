@@ -20,7 +20,7 @@ use Rattle.manual.specs.declared.Change.{Change}
 use Rattle.manual.specs.Word.{plus, minus}
 use Rattle.manual.specs.Registers.{addressOf, applied}
 use Rattle.manual.specs.Memory.{Storage, Memory, access, load, storing, accessMany}
-use Rattle.manual.specs.Reply.{Outcome, outcome, completed, unchanged, refusal, isDone, accessing, loading, taking}
+use Rattle.manual.specs.Reply.{Outcome, outcome, unchanged, refusal, isDone, accessing, loading, taking}
 use Rattle.manual.specs.Lent.{Lent, memoryOf, firstRefusal}
 use Rattle.manual.specs.Differences.{vectorPlace}
 use Rattle.manual.specs.Exceptions.{setSr, handling, pcPlace, framePlace, entered, left}
@@ -42,8 +42,9 @@ refused : (s : Cpu) (n : Reply) (m : Memory) → NoVector (unchanged s n m)
 unfolding refusal
 refused s n m h = refl
 
-done : (s : Cpu) (vector : ℕ) (b : Storage) → NoVector (completed s vector b)
-done s vector b h = absurd (false≢true (sym h))
+-- what was done was not refused
+done : (vector : ℕ) → true ≡ false → vector ≡ 0
+done vector h = absurd (false≢true (sym h))
 
 module _ (given : Cpu) (m : Memory) where
   by-access : (x : Access) (f : ℕ → Outcome) → ((at : ℕ) → NoVector (f at)) → NoVector (accessing given m x f)
@@ -65,7 +66,7 @@ module _ (given : Cpu) (m : Memory) where
       by-access (access m (pcPlace sp) 4) _ λ high.
       by-access (access m (framePlace sp) 4) _ λ low.
       by-access (access m (vectorPlace (s .vbr) n) 4) _ λ table.
-      done _ n _
+      done n
 
   of-return : (s : Cpu) → NoVector (left given s m)
   unfolding left
@@ -73,31 +74,31 @@ module _ (given : Cpu) (m : Memory) where
       let sp : ℕ = addressOf (s .r) 7 in
       by-load (load m sp Long) _ λ w.
       by-load (load m (plus sp 4) Long) _ λ pc.
-      done _ 0 _
+      done 0
 
   of-push : (s : Cpu) (v : ℕ) → NoVector (statusPushed given s v m)
   unfolding statusPushed
-  of-push s v = by-store (storing m (minus (addressOf (s .r) 7) 4) Long) _ (done _ 0 _)
+  of-push s v = by-store (storing m (minus (addressOf (s .r) 7) 4) Long) _ (done 0)
 
   of-action : (s : Cpu) (a : Action) → NoVector (act given s a m)
-  of-action s Nothing h = refl
-  of-action s (Store a z v) = by-store (storing m a z) _ (done _ 0 _)
-  of-action s (StoreMany mask a) = by-store (accessMany 16 m mask a) _ (done _ 0 _)
-  of-action s (LoadMany mask a) = by-store (accessMany 16 m mask a) _ (done _ 0 _)
+  of-action s Nothing = λ h. refl
+  of-action s (Store a z v) = by-store (storing m a z) _ (done 0)
+  of-action s (StoreMany mask a) = by-store (accessMany 16 m mask a) _ (done 0)
+  of-action s (LoadMany mask a) = by-store (accessMany 16 m mask a) _ (done 0)
   of-action s (Enter vector pc) = of-entry s Kept vector pc
   of-action s Return = of-return s
-  of-action s (Status v) h = refl
-  of-action s (Stop v) h = refl
+  of-action s (Status v) = λ h. refl
+  of-action s (Stop v) = λ h. refl
   of-action s (PushStatus v) = of-push s v
-  of-action s Halt h = refl
-  of-action s (Other v) h = refl
-  of-action s (Accumulate i scale sub x y) h = refl
-  of-action s (SetAcc i v) h = refl
-  of-action s (SetExt i v) h = refl
-  of-action s (SetMacsr v) h = refl
-  of-action s (SetMask v) h = refl
-  of-action s (CopyAcc from to) h = refl
-  of-action s (ClearAcc i) h = refl
+  of-action s Halt = λ h. refl
+  of-action s (Other v) = λ h. refl
+  of-action s (Accumulate i scale sub x y) = λ h. refl
+  of-action s (SetAcc i v) = λ h. refl
+  of-action s (SetExt i v) = λ h. refl
+  of-action s (SetMacsr v) = λ h. refl
+  of-action s (SetMask v) = λ h. refl
+  of-action s (CopyAcc from to) = λ h. refl
+  of-action s (ClearAcc i) = λ h. refl
   of-action s (Refuse n) = refused given n m
 
 of-step : (s : Cpu) (l : Lent) → NoVector (step s l)

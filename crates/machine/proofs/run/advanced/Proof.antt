@@ -93,7 +93,7 @@ module _ (c : tie.After-quick-step Inv-loop μ-loop) where
   held = c .quick-step .kept .1 .1 .1 .1 .1 .1 .1 .0
 
 -- it left the word
-module _ (c : tie.After-enum-told2 Inv-loop μ-loop) where
+module _ (c : tie.After-enum-told Inv-loop μ-loop) where
   abbrev quick : tie.After-quick-step Inv-loop μ-loop
   quick = c .before .before .before .before
 
@@ -105,12 +105,12 @@ module _ (c : tie.After-enum-told2 Inv-loop μ-loop) where
 
   left : laws.Fetched (start from .args .budget) (from .loop .n) (from .loop .vector) (due from) (registers quick) (from .loop .pc) (from .loop .sr) sum (from .loop .rest) (lent (storage quick)) (word (row quick)) (row quick .row-by .result)
   left =
-      laws.again (from .loop .macsr) (from .loop .mask) (from .loop .acc) (fetched (row quick)) (registers quick) (sums quick) (storage quick) (quick .quick-step .result) (quick .quick-step .ensures (from .loop .rest .other)) (c .enum-told2 .given .1)
+      laws.again (from .loop .macsr) (from .loop .mask) (from .loop .acc) (fetched (row quick)) (registers quick) (sums quick) (storage quick) (quick .quick-step .result) (quick .quick-step .ensures (from .loop .rest .other)) (c .enum-told .given .1)
 
 -- ---- after the plain engine
 
 module _ (c : tie.After-plain Inv-loop μ-loop) where
-  abbrev told : tie.After-enum-told2 Inv-loop μ-loop
+  abbrev told : tie.After-enum-told Inv-loop μ-loop
   told = c .before .before .before .before
 
   abbrev registers2 : List ℕ
@@ -123,7 +123,7 @@ module _ (c : tie.After-plain Inv-loop μ-loop) where
   held2 = c .plain .kept .1 .1 .1 .1 .1 .1 .1 .1 .0
 
 -- it left the word as well
-module _ (c : tie.After-enum-told3 Inv-loop μ-loop) where
+module _ (c : tie.After-enum-told2 Inv-loop μ-loop) where
   abbrev plain : tie.After-plain Inv-loop μ-loop
   plain = c .before .before .before .before
 
@@ -132,12 +132,12 @@ module _ (c : tie.After-enum-told3 Inv-loop μ-loop) where
 
   left2 : laws.Fetched (start from2 .args .budget) (from2 .loop .n) (from2 .loop .vector) (due from2) (registers2 plain) (from2 .loop .pc) (from2 .loop .sr) (sum (told plain)) (from2 .loop .rest) (lent (storage2 plain)) (word (row (quick (told plain)))) (row (quick (told plain)) .row-by .result)
   left2 =
-      laws.again-plain (from2 .loop .macsr) (from2 .loop .mask) (sums (quick (told plain))) (left (told plain)) (registers2 plain) (sums (quick (told plain))) (storage2 plain) (plain .plain .result) (plain .plain .ensures) refl (c .enum-told3 .given .1)
+      laws.again-plain (from2 .loop .macsr) (from2 .loop .mask) (sums (quick (told plain))) (left (told plain)) (registers2 plain) (sums (quick (told plain))) (storage2 plain) (plain .plain .result) (plain .plain .ensures) refl (c .enum-told2 .given .1)
 
 -- ---- and on the whole state
 
 module _ (c : tie.After-performed Inv-loop μ-loop) where
-  abbrev told3 : tie.After-enum-told3 Inv-loop μ-loop
+  abbrev told3 : tie.After-enum-told2 Inv-loop μ-loop
   told3 = c .before .before .before
 
   abbrev storage3 : Storage
@@ -149,4 +149,141 @@ module _ (c : tie.After-performed Inv-loop μ-loop) where
   abbrev from3 : tie.At-loop Inv-loop μ-loop
   from3 = from2 told3
 
--- TAIL
+-- ---- the needs
+
+loop-holds : tie.Need-loop-holds Inv-loop μ-loop
+loop-holds c =
+    let s = c .before .before .before .before in (search needs, refl, rw (laws.parts (s .args .given)) (s .pre .0), laws.starts _ _ _)
+
+returns : tie.Need-returns Inv-loop μ-loop
+returns c =
+    rw (c .ended .ensures) (laws.halts (turn (c .before .before .before)) _ (c .before .before .if1 .taken) (c .before .assembled .ensures))
+
+returns-2 : tie.Need-returns-2 Inv-loop μ-loop
+returns-2 c =
+    rw (c .ended2 .ensures, c .before .fault-reply .ensures)
+    (laws.unfetched (turn (c .before .before .before .before .before .before .before .before .before)) (c .before .before .before .before .before .before .before .before .if1 .left) _ _ (c .before .before .before .before .before .before .load .ensures) (c .before .before .before .before .x .given .1) _ (c .before .before .assembled2 .ensures))
+
+loop-less : tie.Need-loop-less Inv-loop μ-loop
+loop-less c = let k = c .before .before .before .before .before in omega (arith, turn (in-loop (row k)) .more)
+
+loop-again : tie.Need-loop-again Inv-loop μ-loop
+loop-again c =
+    let k = c .before .before .before .before .before in
+    let x = at (row k) .loop in
+    let d = c .before .next .given in
+    let next = withParts (registers k) (d .0 .0) (d .0 .1 .0) (emacOf (x .macsr) (x .mask) (sums k)) (x .rest) in
+    let done : completed next 0 (storage k) ≡ step (withParts (x .g) (x .pc) (x .sr) (unit (at (row k))) (x .rest)) (lent (x .mem)) =
+    laws.in-place (x .macsr) (x .mask) (x .acc) (fetched (row k)) (registers k) (sums k) (storage k) (k .quick-step .result) (k .quick-step .ensures (x .rest .other)) _ _ (d .1) in
+    let o = laws.goes-on (fetched (row k)) (completedStep next) _ (held k) done refl in
+    (omega (arith, turn (in-loop (row k)) .more), held k ∙ x .inv .1, o .0, o .1)
+
+loop-less-2 : tie.Need-loop-less-2 Inv-loop μ-loop
+loop-less-2 c = let k = c .before .before .before .before .before in omega (arith, turn (in-loop (row k)) .more)
+
+loop-again-2 : tie.Need-loop-again-2 Inv-loop μ-loop
+loop-again-2 c =
+    let k = c .before .before .before .before .before in
+    let x = at (row k) .loop in
+    let d = c .before .next2 .given in
+    let next = withParts (registers k) (d .0 .0) (x .sr) (emacOf (d .0 .1 .0) (x .mask) (sums k)) (x .rest) in
+    let done : completed next 0 (storage k) ≡ step (withParts (x .g) (x .pc) (x .sr) (unit (at (row k))) (x .rest)) (lent (x .mem)) =
+    laws.in-unit (x .macsr) (x .mask) (x .acc) (fetched (row k)) (registers k) (sums k) (storage k) (k .quick-step .result) (k .quick-step .ensures (x .rest .other)) _ _ (d .1) in
+    let o = laws.goes-on (fetched (row k)) (completedStep next) _ (held k) done refl in
+    (omega (arith, turn (in-loop (row k)) .more), held k ∙ x .inv .1, o .0, o .1)
+
+loop-less-3 : tie.Need-loop-less-3 Inv-loop μ-loop
+loop-less-3 c = let k = c .before .before .before .before .before in omega (arith, turn (in-loop (row (quick (told k)))) .more)
+
+loop-again-3 : tie.Need-loop-again-3 Inv-loop μ-loop
+loop-again-3 c =
+    let k = c .before .before .before .before .before in
+    let t = told k in
+    let q = quick t in
+    let x = from t .loop in
+    let d = c .before .next3 .given in
+    let next = withParts (registers2 k) (d .0 .0) (d .0 .1 .0) (sum t) (x .rest) in
+    let done : completed next 0 (storage2 k) ≡ step (withParts (registers q) (x .pc) (x .sr) (sum t) (x .rest)) (lent (storage q)) =
+    laws.in-place-plain (x .macsr) (x .mask) (sums q) (left t) (registers2 k) (sums q) (storage2 k) (k .plain .result) (k .plain .ensures) refl _ _ (d .1) in
+    let o = laws.goes-on (left t) (completedStep next) _ (held2 k) done refl in
+    (omega (arith, turn (in-loop (row q)) .more), held2 k ∙ held q ∙ x .inv .1, o .0, o .1)
+
+same-length-3 : tie.Need-same-length-3 Inv-loop μ-loop
+same-length-3 c =
+    let k = c .before .before .before .before .before .before in
+    let p = plain (told3 k) in
+    held3 k ∙ held2 p ∙ held (quick (told p)) ∙ from3 k .loop .inv .1
+
+returns-3 : tie.Need-returns-3 Inv-loop μ-loop
+returns-3 c =
+    let k = c .before .before .before .before .before .before in
+    let done = laws.performed (left2 (told3 k)) (k .performed .result) _ _ (k .before .before .assembled3 .ensures) (k .performed .ensures) in
+    let i = c .before .before .is-done in
+    rw (c .ended3 .ensures) (laws.stops-here (left2 (told3 k)) (k .performed .result) _ done (sym (i .ensures) ∙ not-true (i .result) (c .before .if2 .taken)))
+
+loop-less-4 : tie.Need-loop-less-4 Inv-loop μ-loop
+loop-less-4 c = let k = c .before .before .before .before .before .before .before in omega (arith, turn (in-loop (row (quick (told (plain (told3 k)))))) .more)
+
+loop-again-4 : tie.Need-loop-again-4 Inv-loop μ-loop
+loop-again-4 c =
+    let k = c .before .before .before .before .before .before .before in
+    let p = plain (told3 k) in
+    let q = quick (told p) in
+    let r = k .performed .result in
+    let i = c .before .before .before .is-done in
+    let done = laws.performed (left2 (told3 k)) r _ _ (k .before .before .assembled3 .ensures) (k .performed .ensures) in
+    let o = laws.goes-on (left2 (told3 k)) r _ (held3 k) done (sym (i .ensures) ∙ not-false (i .result) (c .before .before .if2 .left)) in
+    (omega (arith, turn (in-loop (row q)) .more), held3 k ∙ held2 p ∙ held q ∙ from3 k .loop .inv .1, rw (laws.parts (r .cpu)) (o .0), rw (laws.parts (r .cpu)) (o .1))
+
+returns-4 : tie.Need-returns-4 Inv-loop μ-loop
+returns-4 c =
+    let x = c .before .before .before .loop in
+    rw (c .ended4 .ensures, c .before .assembled4 .ensures)
+    (laws.ends _ (x .n) (x .vector) _ (withParts (x .g) (x .pc) (x .sr) (emacOf (x .macsr) (x .mask) (x .acc)) (x .rest)) (lent (x .mem)) (x .inv .3) (c .before .before .loop-test .left))
+
+pub advanced-spec : {M : Type 1} → statement M
+advanced-spec =
+    tie.close
+    (tie.spec
+    Inv-loop
+    μ-loop
+    loop-holds
+    (λ c. search needs)
+    (λ c κs. search needs)
+    (λ c κs. search needs)
+    (λ c. search needs)
+    returns
+    (λ c κs. search needs)
+    (λ c. search needs)
+    (λ c. search needs)
+    (λ c κs. search needs)
+    (λ c κs. search needs)
+    (λ c κs. search needs)
+    (λ c. search needs)
+    returns-2
+    (λ c κs. search needs)
+    (λ c κs. search needs)
+    (λ c. search needs)
+    loop-less
+    loop-again
+    (λ c. search needs)
+    loop-less-2
+    loop-again-2
+    (λ c. search needs)
+    (λ c κs. search needs)
+    (λ c. search needs)
+    loop-less-3
+    loop-again-3
+    (λ c. search needs)
+    (λ c κs. search needs)
+    (λ c κs. search needs)
+    (λ c κs. search needs)
+    (λ c κs. search needs)
+    same-length-3
+    returns-3
+    loop-less-4
+    loop-again-4
+    (λ c κs. search needs)
+    (λ c κs. search needs)
+    (λ c. search needs)
+    returns-4)
