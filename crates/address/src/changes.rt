@@ -1,6 +1,7 @@
 // The parts that an instruction's change is made of.
 use manual::Action;
 use manual::Change;
+use manual::Destination;
 use manual::Fault;
 use manual::Place;
 use manual::Reply;
@@ -16,7 +17,8 @@ use word::registers::write_data;
 use word::word::merged;
 use word::word::minus;
 ghost use mathlib.Core.Path.{_≡_};
-ghost use Rattle.manual.specs.Change.{done as doneOf, store as storeOf, acting as actingOf, enterAfter, enter as enterOf, illegal as illegalOf, privilege as privilegeOf, refuse as refuseOf, refused as refusedOf, notCarried, jump as jumpOf, push as pushOf, put as putOf};
+ghost use Rattle.manual.specs.Change.{done as doneOf, store as storeOf, acting as actingOf, enterAfter, enter as enterOf, illegal as illegalOf, privilege as privilegeOf, refuse as refuseOf, refused as refusedOf, notCarried, jump as jumpOf, push as pushOf, put as putOf, putTo};
+ghost use Rattle.manual.specs.Reply.{faultReply};
 
 pub fn done(next: u32, codes: u32, first: Write, second: Write) -> Change
     ensures { λ e. ⌜ e ≡ doneOf next codes first second ⌝ }
@@ -146,4 +148,13 @@ pub fn put(
         Place::I(_) => done(next, codes, first, second),
         Place::Fault(x) => refused(x),
     }
+}
+
+// A value put to an operand, whose register moves.
+pub fn put_to(g: &[u32; 16], codes: u32, to: Destination, z: Size, v: u32) -> Change
+    ensures { λ e. ⌜ e ≡ putTo (now (g .entry)) codes to z v ⌝ }
+{
+    let place = to.place;
+    let first = to.moved;
+    put(g, to.next, codes, first, no_write(), place, z, v)
 }

@@ -1,4 +1,5 @@
 // Operands: their extension words, where they are and what stands there.
+use manual::Destination;
 use manual::Got;
 use manual::Operand;
 use manual::Place;
@@ -20,7 +21,7 @@ use word::word::sign_extended;
 ghost use mathlib.Core.Path.{_≡_};
 ghost use Prim.Native.Nat.{_+_, _-_, _*_, _/_, _%_, _^_, _≤_, _<_};
 ghost use Rattle.manual.specs.Memory.{mapped};
-ghost use Rattle.manual.specs.Address.{operand as operandOf, extension as extensionOf, index as indexOf, indexed as indexedOf, immediate as immediateOf, locate as locateOf, moved as movedOf, fetch as fetchOf, value as valueOf, reached as reachedOf, control as controlOf, source as sourceOf};
+ghost use Rattle.manual.specs.Address.{operand as operandOf, extension as extensionOf, index as indexOf, indexed as indexedOf, immediate as immediateOf, locate as locateOf, moved as movedOf, fetch as fetchOf, value as valueOf, reached as reachedOf, control as controlOf, source as sourceOf, destination as destinationOf};
 
 pub fn operand(mode: u32, r: u32) -> Operand
     ensures { λ o. ⌜ o ≡ operandOf mode r ⌝ }
@@ -198,7 +199,7 @@ pub fn control(g: &[u32; 16], mem: &[u8], pc: u32, o: Operand) -> Reached
 }
 
 // Every mode, by the plain leaves.
-fn far(g: &[u32; 16], mem: &[u8], pc: u32, op: u32, z: Size) -> Source
+fn source_by_leaves(g: &[u32; 16], mem: &[u8], pc: u32, op: u32, z: Size) -> Source
     ensures { λ r. ⌜ r ≡ sourceOf (now (g .entry)) (mapped (now (mem .entry))) pc op z ⌝ }
 {
     let o = operand(op / 8 % 8, op % 8);
@@ -212,7 +213,7 @@ fn far(g: &[u32; 16], mem: &[u8], pc: u32, op: u32, z: Size) -> Source
     }
 }
 
-// What an operand reads, by one `match` on its mode: most operands are one of these, and the rest are far.
+// What an operand reads, by one `match` on its mode: most operands are one of these, and the rest go by the leaves.
 pub fn source(g: &[u32; 16], mem: &[u8], pc: u32, op: u32, z: Size) -> Source
     ensures { λ r. ⌜ r ≡ sourceOf (now (g .entry)) (mapped (now (mem .entry))) pc op z ⌝ }
 {
@@ -269,6 +270,21 @@ pub fn source(g: &[u32; 16], mem: &[u8], pc: u32, op: u32, z: Size) -> Source
                 moved: down,
             }
         }
-        _ => far(g, mem, pc, op, z),
+        _ => source_by_leaves(g, mem, pc, op, z),
+    }
+}
+
+// Where an operand is written; what stands there is not read.
+pub fn destination(g: &[u32; 16], mem: &[u8], pc: u32, op: u32, z: Size) -> Destination
+    ensures { λ r. ⌜ r ≡ destinationOf (now (g .entry)) (mapped (now (mem .entry))) pc op z ⌝ }
+{
+    let o = operand(op / 8 % 8, op % 8);
+    let place = locate(g, mem, pc, o, z);
+    let next = plus(pc, extension(o, z));
+    let moves = moved(g, o, z);
+    Destination {
+        place: place,
+        next: next,
+        moved: moves,
     }
 }

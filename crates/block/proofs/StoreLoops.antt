@@ -7,7 +7,7 @@ use native.Mathlib.Numerals.{add-one}
 use lib.ListN.{length, getD, take, set, replicate, replicate-append-replicate}
 use lib.Seq.{take-all, take-suc-set}
 use Rattle.manual.specs.Memory.{storeAt}
-use Rattle.manual.specs.Block.{headed, withLongs}
+use Rattle.manual.specs.Block.{versionAt, lengthAt, blockBytes, blockRest, registersAt, headed, withLongs}
 
 -- ---- zeros
 
@@ -20,18 +20,18 @@ cleared-all : (n : ℕ) (m : List ℕ) (i : ℕ) → n ≤ i → i ≤ n → len
 cleared-all n m i h k l q = let e : i ≡ n = omega arith in sym (take-all n m (omega arith)) ∙ (rw e at q)
 
 -- and with the version and the length
-pub headed-is : (m m1 m2 : List ℕ) (i : ℕ) → 128 ≤ i → i ≤ 128 → length m ≡ 128 → take i m ≡ replicate i 0
-    → m1 ≡ storeAt m 0 1 1 → m2 ≡ storeAt m1 1 4 123 → m2 ≡ headed
+pub headed-is : (m m1 m2 : List ℕ) (i : ℕ) → blockBytes ≤ i → i ≤ blockBytes → length m ≡ blockBytes → take i m ≡ replicate i 0
+    → m1 ≡ storeAt m versionAt 1 1 → m2 ≡ storeAt m1 lengthAt 4 blockRest → m2 ≡ headed
 unfolding headed
-headed-is m m1 m2 i h k l q e1 e2 = e2 ∙ rw (e1, cleared-all 128 m i h k l q)
+headed-is m m1 m2 i h k l q e1 e2 = e2 ∙ rw (e1, cleared-all blockBytes m i h k l q)
 
 -- ---- the registers, i of them done
 
-pub stores-on : (i : ℕ) → i < 16 → (g b b′ w : List ℕ) → b′ ≡ storeAt b (5 + i * 4) 4 (getD g i 0)
-    → withLongs g i (16 - i) (5 + i * 4) b ≡ w → withLongs g (i + 1) (16 - (i + 1)) (5 + (i + 1) * 4) b′ ≡ w
+pub stores-on : (i : ℕ) → i < 16 → (g b b′ w : List ℕ) → b′ ≡ storeAt b (registersAt + i * 4) 4 (getD g i 0)
+    → withLongs g i (16 - i) (registersAt + i * 4) b ≡ w → withLongs g (i + 1) (16 - (i + 1)) (registersAt + (i + 1) * 4) b′ ≡ w
 unfolding withLongs
 stores-on i h g b b′ w e q =
-    let place : 5 + (i + 1) * 4 ≡ 5 + i * 4 + 4 = omega arith in
+    let place : registersAt + (i + 1) * 4 ≡ registersAt + i * 4 + 4 = omega arith in
     let left : 16 - i ≡ suc (16 - (i + 1)) = omega arith in
     rw (place, e) (rw left at q)
 

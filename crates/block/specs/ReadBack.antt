@@ -16,7 +16,7 @@ use Rattle.manual.specs.Word.{bit}
 use Rattle.manual.specs.Memory.{valueAt, storeAt}
 use Rattle.manual.specs.Emac.{modeOf, emacOf, accOf, blockNumber, blockInRange}
 use Rattle.manual.specs.Admitted.{emacAdmitted, admitted}
-use Rattle.manual.specs.Block.{longsAt, emacAt, stateAt, numbersFit, readBlock, headed, withLongs, withControls, withAccs, withUnit, blockOf}
+use Rattle.manual.specs.Block.{versionAt, lengthAt, headBytes, blockBytes, blockRest, registersAt, pcAt, srAt, otherAt, vbrAt, cacrAt, macsrAt, maskAt, accAt, stoppedAt, longsAt, emacAt, stateAt, numbersFit, readBlock, headed, withLongs, withControls, withAccs, withUnit, blockOf}
 use Rattle.memory.specs.MemoryLaws.{length-store, read-other, read-same}
 use Rattle.state.specs.AdmittedLaws.{admitted-emac}
 use Rattle.emac.specs.EmacKept.{acc-small, macsr-small}
@@ -76,105 +76,105 @@ longs-same m m′ limit same (suc count) a h =
 
 -- ---- the parts
 
-length-headed : length headed ≡ 128
+length-headed : length headed ≡ blockBytes
 unfolding headed
 length-headed = simp length-store
 
-version : valueAt headed 0 1 ≡ 1
+version : valueAt headed versionAt 1 ≡ 1
 unfolding headed
-version = above _ 1 4 123 0 1 (omega arith) ∙ read-same _ 0 1 1 (omega arith) (omega arith)
+version = above _ lengthAt 4 blockRest versionAt 1 (omega arith) ∙ read-same _ versionAt 1 1 (omega arith) (omega arith)
 
-long-field : valueAt headed 1 4 ≡ 123
+long-field : valueAt headed lengthAt 4 ≡ blockRest
 unfolding headed
-long-field = read-same _ 1 4 123 (simp length-store (omega arith)) (omega arith)
+long-field = read-same _ lengthAt 4 blockRest (simp length-store (omega arith)) (omega arith)
 
-module _ (s : Cpu) (g : Ranged s) (b : List ℕ) (l : length b ≡ 128) where
-  length-controls : length (withControls s b) ≡ 128
+module _ (s : Cpu) (g : Ranged s) (b : List ℕ) (l : length b ≡ blockBytes) where
+  length-controls : length (withControls s b) ≡ blockBytes
   unfolding withControls
   length-controls = simp length-store l
 
-  above-controls : (at k : ℕ) → at + k ≤ 69 → valueAt (withControls s b) at k ≡ valueAt b at k
+  above-controls : (at k : ℕ) → at + k ≤ pcAt → valueAt (withControls s b) at k ≡ valueAt b at k
   unfolding withControls
   above-controls at k h =
-      above _ 83 4 _ at k (omega arith) ∙ above _ 79 4 _ at k (omega arith) ∙ above _ 75 4 _ at k (omega arith)
-      ∙ above _ 73 2 _ at k (omega arith) ∙ above _ 69 4 _ at k (omega arith)
+      above _ cacrAt 4 _ at k (omega arith) ∙ above _ vbrAt 4 _ at k (omega arith) ∙ above _ otherAt 4 _ at k (omega arith)
+      ∙ above _ srAt 2 _ at k (omega arith) ∙ above _ pcAt 4 _ at k (omega arith)
 
-  pc-back : valueAt (withControls s b) 69 4 ≡ s .pc
+  pc-back : valueAt (withControls s b) pcAt 4 ≡ s .pc
   unfolding withControls
   pc-back =
-      above _ 83 4 _ 69 4 (omega arith) ∙ above _ 79 4 _ 69 4 (omega arith) ∙ above _ 75 4 _ 69 4 (omega arith)
-      ∙ above _ 73 2 _ 69 4 (omega arith) ∙ read-same _ 69 4 (s .pc) (omega arith) (g .pc)
+      above _ cacrAt 4 _ pcAt 4 (omega arith) ∙ above _ vbrAt 4 _ pcAt 4 (omega arith) ∙ above _ otherAt 4 _ pcAt 4 (omega arith)
+      ∙ above _ srAt 2 _ pcAt 4 (omega arith) ∙ read-same _ pcAt 4 (s .pc) (omega arith) (g .pc)
 
-  sr-back : valueAt (withControls s b) 73 2 ≡ s .sr
+  sr-back : valueAt (withControls s b) srAt 2 ≡ s .sr
   unfolding withControls
   sr-back =
-      above _ 83 4 _ 73 2 (omega arith) ∙ above _ 79 4 _ 73 2 (omega arith) ∙ above _ 75 4 _ 73 2 (omega arith)
-      ∙ read-same _ 73 2 (s .sr) (simp length-store (omega arith)) (g .sr)
+      above _ cacrAt 4 _ srAt 2 (omega arith) ∙ above _ vbrAt 4 _ srAt 2 (omega arith) ∙ above _ otherAt 4 _ srAt 2 (omega arith)
+      ∙ read-same _ srAt 2 (s .sr) (simp length-store (omega arith)) (g .sr)
 
-  other-back : valueAt (withControls s b) 75 4 ≡ s .other
+  other-back : valueAt (withControls s b) otherAt 4 ≡ s .other
   unfolding withControls
   other-back =
-      above _ 83 4 _ 75 4 (omega arith) ∙ above _ 79 4 _ 75 4 (omega arith)
-      ∙ read-same _ 75 4 (s .other) (simp length-store (omega arith)) (g .other)
+      above _ cacrAt 4 _ otherAt 4 (omega arith) ∙ above _ vbrAt 4 _ otherAt 4 (omega arith)
+      ∙ read-same _ otherAt 4 (s .other) (simp length-store (omega arith)) (g .other)
 
-  vbr-back : valueAt (withControls s b) 79 4 ≡ s .vbr
+  vbr-back : valueAt (withControls s b) vbrAt 4 ≡ s .vbr
   unfolding withControls
-  vbr-back = above _ 83 4 _ 79 4 (omega arith) ∙ read-same _ 79 4 (s .vbr) (simp length-store (omega arith)) (g .vbr)
+  vbr-back = above _ cacrAt 4 _ vbrAt 4 (omega arith) ∙ read-same _ vbrAt 4 (s .vbr) (simp length-store (omega arith)) (g .vbr)
 
-  cacr-back : valueAt (withControls s b) 83 4 ≡ s .cacr
+  cacr-back : valueAt (withControls s b) cacrAt 4 ≡ s .cacr
   unfolding withControls
-  cacr-back = read-same _ 83 4 (s .cacr) (simp length-store (omega arith)) (g .cacr)
+  cacr-back = read-same _ cacrAt 4 (s .cacr) (simp length-store (omega arith)) (g .cacr)
 
 abbrev number : Emac → ℕ → ℕ
 number e i = blockNumber (modeOf (e .macsr)) (accOf e i)
 
-module _ (e : Emac) (h : emacAdmitted e ≡ true) (small : e .mask < 2 ^ 32) (b : List ℕ) (l : length b ≡ 128) where
+module _ (e : Emac) (h : emacAdmitted e ≡ true) (small : e .mask < 2 ^ 32) (b : List ℕ) (l : length b ≡ blockBytes) where
   below : (i : ℕ) → number e i < 2 ^ 64
   below i = block-below (modeOf (e .macsr)) (accOf e i)
 
-  length-unit : length (withUnit e b) ≡ 128
+  length-unit : length (withUnit e b) ≡ blockBytes
   unfolding withUnit withAccs
   length-unit = simp length-store l
 
-  above-accs : (m : List ℕ) (at k : ℕ) → at + k ≤ 95 → valueAt (withAccs e m) at k ≡ valueAt m at k
+  above-accs : (m : List ℕ) (at k : ℕ) → at + k ≤ accAt 0 → valueAt (withAccs e m) at k ≡ valueAt m at k
   unfolding withAccs
   above-accs m at k p =
-      above _ 119 8 _ at k (omega arith) ∙ above _ 111 8 _ at k (omega arith) ∙ above _ 103 8 _ at k (omega arith) ∙ above _ 95 8 _ at k (omega arith)
+      above _ (accAt 3) 8 _ at k (omega arith) ∙ above _ (accAt 2) 8 _ at k (omega arith) ∙ above _ (accAt 1) 8 _ at k (omega arith) ∙ above _ (accAt 0) 8 _ at k (omega arith)
 
-  above-unit : (at k : ℕ) → at + k ≤ 87 → valueAt (withUnit e b) at k ≡ valueAt b at k
+  above-unit : (at k : ℕ) → at + k ≤ macsrAt → valueAt (withUnit e b) at k ≡ valueAt b at k
   unfolding withUnit
   above-unit at k p =
-      above-accs _ at k (omega arith) ∙ above _ 91 4 _ at k (omega arith) ∙ above _ 87 4 _ at k (omega arith)
+      above-accs _ at k (omega arith) ∙ above _ maskAt 4 _ at k (omega arith) ∙ above _ macsrAt 4 _ at k (omega arith)
 
-  macsr-back : valueAt (withUnit e b) 87 4 ≡ e .macsr
+  macsr-back : valueAt (withUnit e b) macsrAt 4 ≡ e .macsr
   unfolding withUnit
   macsr-back =
-      above-accs _ 87 4 (omega arith) ∙ above _ 91 4 _ 87 4 (omega arith)
-      ∙ read-same _ 87 4 (e .macsr) (omega arith) (omega (arith, macsr-small e h))
+      above-accs _ macsrAt 4 (omega arith) ∙ above _ maskAt 4 _ macsrAt 4 (omega arith)
+      ∙ read-same _ macsrAt 4 (e .macsr) (omega arith) (omega (arith, macsr-small e h))
 
-  mask-back : valueAt (withUnit e b) 91 4 ≡ e .mask
+  mask-back : valueAt (withUnit e b) maskAt 4 ≡ e .mask
   unfolding withUnit
-  mask-back = above-accs _ 91 4 (omega arith) ∙ read-same _ 91 4 (e .mask) (simp length-store (omega arith)) small
+  mask-back = above-accs _ maskAt 4 (omega arith) ∙ read-same _ maskAt 4 (e .mask) (simp length-store (omega arith)) small
 
-  acc0-back : valueAt (withUnit e b) 95 8 ≡ number e 0
+  acc0-back : valueAt (withUnit e b) (accAt 0) 8 ≡ number e 0
   unfolding withUnit withAccs
   acc0-back =
-      above _ 119 8 _ 95 8 (omega arith) ∙ above _ 111 8 _ 95 8 (omega arith) ∙ above _ 103 8 _ 95 8 (omega arith)
-      ∙ read-same _ 95 8 (number e 0) (simp length-store (omega arith)) (below 0)
+      above _ (accAt 3) 8 _ (accAt 0) 8 (omega arith) ∙ above _ (accAt 2) 8 _ (accAt 0) 8 (omega arith) ∙ above _ (accAt 1) 8 _ (accAt 0) 8 (omega arith)
+      ∙ read-same _ (accAt 0) 8 (number e 0) (simp length-store (omega arith)) (below 0)
 
-  acc1-back : valueAt (withUnit e b) 103 8 ≡ number e 1
+  acc1-back : valueAt (withUnit e b) (accAt 1) 8 ≡ number e 1
   unfolding withUnit withAccs
   acc1-back =
-      above _ 119 8 _ 103 8 (omega arith) ∙ above _ 111 8 _ 103 8 (omega arith)
-      ∙ read-same _ 103 8 (number e 1) (simp length-store (omega arith)) (below 1)
+      above _ (accAt 3) 8 _ (accAt 1) 8 (omega arith) ∙ above _ (accAt 2) 8 _ (accAt 1) 8 (omega arith)
+      ∙ read-same _ (accAt 1) 8 (number e 1) (simp length-store (omega arith)) (below 1)
 
-  acc2-back : valueAt (withUnit e b) 111 8 ≡ number e 2
+  acc2-back : valueAt (withUnit e b) (accAt 2) 8 ≡ number e 2
   unfolding withUnit withAccs
-  acc2-back = above _ 119 8 _ 111 8 (omega arith) ∙ read-same _ 111 8 (number e 2) (simp length-store (omega arith)) (below 2)
+  acc2-back = above _ (accAt 3) 8 _ (accAt 2) 8 (omega arith) ∙ read-same _ (accAt 2) 8 (number e 2) (simp length-store (omega arith)) (below 2)
 
-  acc3-back : valueAt (withUnit e b) 119 8 ≡ number e 3
+  acc3-back : valueAt (withUnit e b) (accAt 3) 8 ≡ number e 3
   unfolding withUnit withAccs
-  acc3-back = read-same _ 119 8 (number e 3) (simp length-store (omega arith)) (below 3)
+  acc3-back = read-same _ (accAt 3) 8 (number e 3) (simp length-store (omega arith)) (below 3)
 
 -- ---- the state
 
@@ -208,7 +208,7 @@ module _ (s : Cpu) (h : admitted s ≡ true) (g : Ranged s) where
   unit = admitted-emac s h
 
   abbrev registered : List ℕ
-  registered = withLongs (s .r) 0 16 5 headed
+  registered = withLongs (s .r) 0 16 registersAt headed
 
   abbrev controlled : List ℕ
   controlled = withControls s registered
@@ -216,56 +216,56 @@ module _ (s : Cpu) (h : admitted s ≡ true) (g : Ranged s) where
   abbrev whole : List ℕ
   whole = withUnit (s .emac) controlled
 
-  length-registered : length registered ≡ 128
-  length-registered = length-longs 16 0 5 (s .r) headed ∙ length-headed
+  length-registered : length registered ≡ blockBytes
+  length-registered = length-longs 16 0 registersAt (s .r) headed ∙ length-headed
 
-  length-controlled : length controlled ≡ 128
+  length-controlled : length controlled ≡ blockBytes
   length-controlled = length-controls s g registered length-registered
 
-  length-whole : length whole ≡ 128
+  length-whole : length whole ≡ blockBytes
   length-whole = length-unit (s .emac) unit (g .mask) controlled length-controlled
 
-  pub length-block : length (blockOf s) ≡ 128
+  pub length-block : length (blockOf s) ≡ blockBytes
   unfolding blockOf
-  length-block = length-store whole 127 1 (bit (s .stopped)) ∙ length-whole
+  length-block = length-store whole stoppedAt 1 (bit (s .stopped)) ∙ length-whole
 
-  from-unit : (at k : ℕ) → at + k ≤ 127 → valueAt (blockOf s) at k ≡ valueAt whole at k
+  from-unit : (at k : ℕ) → at + k ≤ stoppedAt → valueAt (blockOf s) at k ≡ valueAt whole at k
   unfolding blockOf
-  from-unit at k p = above whole 127 1 (bit (s .stopped)) at k p
+  from-unit at k p = above whole stoppedAt 1 (bit (s .stopped)) at k p
 
-  from-controls : (at k : ℕ) → at + k ≤ 87 → valueAt (blockOf s) at k ≡ valueAt controlled at k
+  from-controls : (at k : ℕ) → at + k ≤ macsrAt → valueAt (blockOf s) at k ≡ valueAt controlled at k
   from-controls at k p = from-unit at k (omega arith) ∙ above-unit (s .emac) unit (g .mask) controlled length-controlled at k p
 
-  from-registers : (at k : ℕ) → at + k ≤ 69 → valueAt (blockOf s) at k ≡ valueAt registered at k
+  from-registers : (at k : ℕ) → at + k ≤ pcAt → valueAt (blockOf s) at k ≡ valueAt registered at k
   from-registers at k p = from-controls at k (omega arith) ∙ above-controls s g registered length-registered at k p
 
-  from-head : (at k : ℕ) → at + k ≤ 5 → valueAt (blockOf s) at k ≡ valueAt headed at k
-  from-head at k p = from-registers at k (omega arith) ∙ above-longs 16 0 5 (s .r) headed at k p
+  from-head : (at k : ℕ) → at + k ≤ headBytes → valueAt (blockOf s) at k ≡ valueAt headed at k
+  from-head at k p = from-registers at k (omega arith) ∙ above-longs 16 0 registersAt (s .r) headed at k p
 
-  registers-back : longsAt (blockOf s) 16 5 ≡ s .r
+  registers-back : longsAt (blockOf s) 16 registersAt ≡ s .r
   registers-back =
-      longs-same (blockOf s) registered 69 from-registers 16 5 (omega arith)
-      ∙ longs-back 16 0 5 (s .r) headed (g .each) (omega (arith, g .registers)) (omega (arith, length-headed))
+      longs-same (blockOf s) registered pcAt from-registers 16 registersAt (omega arith)
+      ∙ longs-back 16 0 registersAt (s .r) headed (g .each) (omega (arith, g .registers)) (omega (arith, length-headed))
       ∙ take-all 16 (s .r) (omega (arith, g .registers))
 
-  stopped-back : valueAt (blockOf s) 127 1 ≡ bit (s .stopped)
+  stopped-back : valueAt (blockOf s) stoppedAt 1 ≡ bit (s .stopped)
   unfolding blockOf
-  stopped-back = read-same whole 127 1 (bit (s .stopped)) (omega (arith, length-whole)) (bit-small (s .stopped))
+  stopped-back = read-same whole stoppedAt 1 (bit (s .stopped)) (omega (arith, length-whole)) (bit-small (s .stopped))
 
-  read-macsr : valueAt (blockOf s) 87 4 ≡ s .emac .macsr
-  read-macsr = from-unit 87 4 (omega arith) ∙ macsr-back (s .emac) unit (g .mask) controlled length-controlled
+  read-macsr : valueAt (blockOf s) macsrAt 4 ≡ s .emac .macsr
+  read-macsr = from-unit macsrAt 4 (omega arith) ∙ macsr-back (s .emac) unit (g .mask) controlled length-controlled
 
-  read-acc0 : valueAt (blockOf s) 95 8 ≡ number (s .emac) 0
-  read-acc0 = from-unit 95 8 (omega arith) ∙ acc0-back (s .emac) unit (g .mask) controlled length-controlled
+  read-acc0 : valueAt (blockOf s) (accAt 0) 8 ≡ number (s .emac) 0
+  read-acc0 = from-unit (accAt 0) 8 (omega arith) ∙ acc0-back (s .emac) unit (g .mask) controlled length-controlled
 
-  read-acc1 : valueAt (blockOf s) 103 8 ≡ number (s .emac) 1
-  read-acc1 = from-unit 103 8 (omega arith) ∙ acc1-back (s .emac) unit (g .mask) controlled length-controlled
+  read-acc1 : valueAt (blockOf s) (accAt 1) 8 ≡ number (s .emac) 1
+  read-acc1 = from-unit (accAt 1) 8 (omega arith) ∙ acc1-back (s .emac) unit (g .mask) controlled length-controlled
 
-  read-acc2 : valueAt (blockOf s) 111 8 ≡ number (s .emac) 2
-  read-acc2 = from-unit 111 8 (omega arith) ∙ acc2-back (s .emac) unit (g .mask) controlled length-controlled
+  read-acc2 : valueAt (blockOf s) (accAt 2) 8 ≡ number (s .emac) 2
+  read-acc2 = from-unit (accAt 2) 8 (omega arith) ∙ acc2-back (s .emac) unit (g .mask) controlled length-controlled
 
-  read-acc3 : valueAt (blockOf s) 119 8 ≡ number (s .emac) 3
-  read-acc3 = from-unit 119 8 (omega arith) ∙ acc3-back (s .emac) unit (g .mask) controlled length-controlled
+  read-acc3 : valueAt (blockOf s) (accAt 3) 8 ≡ number (s .emac) 3
+  read-acc3 = from-unit (accAt 3) 8 (omega arith) ∙ acc3-back (s .emac) unit (g .mask) controlled length-controlled
 
   pattern-of : (i : ℕ) → number (s .emac) i % 2 ^ 48 ≡ accOf (s .emac) i
   pattern-of i = pattern-block (modeOf (s .emac .macsr)) (accOf (s .emac) i) (acc-small (s .emac) unit i)
@@ -278,7 +278,7 @@ module _ (s : Cpu) (h : admitted s ≡ true) (g : Ranged s) where
   unit-back =
       rw (
         read-macsr,
-        from-unit 91 4 (omega arith) ∙ mask-back (s .emac) unit (g .mask) controlled length-controlled,
+        from-unit maskAt 4 (omega arith) ∙ mask-back (s .emac) unit (g .mask) controlled length-controlled,
         ap (λ (n : ℕ). n % 2 ^ 48) read-acc0 ∙ pattern-of 0,
         ap (λ (n : ℕ). n % 2 ^ 48) read-acc1 ∙ pattern-of 1,
         ap (λ (n : ℕ). n % 2 ^ 48) read-acc2 ∙ pattern-of 2,
@@ -291,11 +291,11 @@ module _ (s : Cpu) (h : admitted s ≡ true) (g : Ranged s) where
   state-back =
       rw (
         registers-back,
-        from-controls 69 4 (omega arith) ∙ pc-back s g registered length-registered,
-        from-controls 73 2 (omega arith) ∙ sr-back s g registered length-registered,
-        from-controls 75 4 (omega arith) ∙ other-back s g registered length-registered,
-        from-controls 79 4 (omega arith) ∙ vbr-back s g registered length-registered,
-        from-controls 83 4 (omega arith) ∙ cacr-back s g registered length-registered,
+        from-controls pcAt 4 (omega arith) ∙ pc-back s g registered length-registered,
+        from-controls srAt 2 (omega arith) ∙ sr-back s g registered length-registered,
+        from-controls otherAt 4 (omega arith) ∙ other-back s g registered length-registered,
+        from-controls vbrAt 4 (omega arith) ∙ vbr-back s g registered length-registered,
+        from-controls cacrAt 4 (omega arith) ∙ cacr-back s g registered length-registered,
         unit-back,
         stopped-back,
         bit-is (s .stopped),
@@ -324,8 +324,8 @@ module _ (s : Cpu) (h : admitted s ≡ true) (g : Ranged s) where
   read-back =
       rw (
         length-block,
-        from-head 0 1 (omega arith) ∙ version,
-        from-head 1 4 (omega arith) ∙ long-field,
+        from-head versionAt 1 (omega arith) ∙ version,
+        from-head lengthAt 4 (omega arith) ∙ long-field,
         state-back,
         h,
         numbers-fit,

@@ -9,37 +9,38 @@ use manual::Answer;
 use manual::Cpu;
 use manual::Emac;
 use manual::Reply;
+use manual::block;
 use state::fresh::fresh;
 use state::status::admitted;
 use word::flags::both;
 ghost use mathlib.Core.Path.{_≡_};
 ghost use lib.ListN.{length};
-ghost use Rattle.manual.specs.Block.{longsAt, emacAt, stateAt, numbersFit, notRead, readBlock};
+ghost use Rattle.manual.specs.Block.{blockBytes, registersAt, longsAt, emacAt, stateAt, numbersFit, notRead, readBlock};
 
 fn registers_at(bytes: &[u8]) -> [u32; 16]
-    requires { ⌜ length (now bytes) ≡ 128 ⌝ }
-    ensures { λ r. ⌜ r ≡ longsAt (now (bytes .entry)) 16 5 ⌝ }
+    requires { ⌜ length (now bytes) ≡ blockBytes ⌝ }
+    ensures { λ r. ⌜ r ≡ longsAt (now (bytes .entry)) 16 registersAt ⌝ }
 {
     let mut g: [u32; 16] = [0; 16];
     let mut i: usize = 0;
     while i < 16 {
-        g[i] = long_at(bytes, 5 + i * 4);
+        g[i] = long_at(bytes, block::REGISTERS_AT + i * 4);
         i += 1;
     }
     g
 }
 
 fn emac_at(bytes: &[u8]) -> Emac
-    requires { ⌜ length (now bytes) ≡ 128 ⌝ }
+    requires { ⌜ length (now bytes) ≡ blockBytes ⌝ }
     ensures { λ r. ⌜ r ≡ emacAt (now (bytes .entry)) ⌝ }
 {
-    let macsr = long_at(bytes, 87);
-    let mask = long_at(bytes, 91);
+    let macsr = long_at(bytes, block::MACSR_AT);
+    let mask = long_at(bytes, block::MASK_AT);
     let acc = [
-        read_number(bytes, 95, 8) % 0x1_0000_0000_0000,
-        read_number(bytes, 103, 8) % 0x1_0000_0000_0000,
-        read_number(bytes, 111, 8) % 0x1_0000_0000_0000,
-        read_number(bytes, 119, 8) % 0x1_0000_0000_0000,
+        read_number(bytes, block::ACC0_AT, 8) % 0x1_0000_0000_0000,
+        read_number(bytes, block::ACC1_AT, 8) % 0x1_0000_0000_0000,
+        read_number(bytes, block::ACC2_AT, 8) % 0x1_0000_0000_0000,
+        read_number(bytes, block::ACC3_AT, 8) % 0x1_0000_0000_0000,
     ];
     Emac {
         macsr: macsr,
@@ -49,17 +50,17 @@ fn emac_at(bytes: &[u8]) -> Emac
 }
 
 fn state_at(bytes: &[u8]) -> Cpu
-    requires { ⌜ length (now bytes) ≡ 128 ⌝ }
+    requires { ⌜ length (now bytes) ≡ blockBytes ⌝ }
     ensures { λ r. ⌜ r ≡ stateAt (now (bytes .entry)) ⌝ }
 {
     let r = registers_at(bytes);
-    let pc = long_at(bytes, 69);
-    let sr = word_at(bytes, 73);
-    let other = long_at(bytes, 75);
-    let vbr = long_at(bytes, 79);
-    let cacr = long_at(bytes, 83);
+    let pc = long_at(bytes, block::PC_AT);
+    let sr = word_at(bytes, block::SR_AT);
+    let other = long_at(bytes, block::OTHER_AT);
+    let vbr = long_at(bytes, block::VBR_AT);
+    let cacr = long_at(bytes, block::CACR_AT);
     let unit = emac_at(bytes);
-    let last = byte_at(bytes, 127);
+    let last = byte_at(bytes, block::STOPPED_AT);
     Cpu {
         r: r,
         pc: pc,
@@ -73,15 +74,15 @@ fn state_at(bytes: &[u8]) -> Cpu
 }
 
 fn numbers_fit(bytes: &[u8]) -> bool
-    requires { ⌜ length (now bytes) ≡ 128 ⌝ }
+    requires { ⌜ length (now bytes) ≡ blockBytes ⌝ }
     ensures { λ r. ⌜ r ≡ numbersFit (now (bytes .entry)) ⌝ }
 {
-    let k = mode_of(long_at(bytes, 87));
-    let a = block_in_range(k, read_number(bytes, 95, 8));
-    let b = block_in_range(k, read_number(bytes, 103, 8));
-    let c = block_in_range(k, read_number(bytes, 111, 8));
-    let d = block_in_range(k, read_number(bytes, 119, 8));
-    let last = byte_at(bytes, 127);
+    let k = mode_of(long_at(bytes, block::MACSR_AT));
+    let a = block_in_range(k, read_number(bytes, block::ACC0_AT, 8));
+    let b = block_in_range(k, read_number(bytes, block::ACC1_AT, 8));
+    let c = block_in_range(k, read_number(bytes, block::ACC2_AT, 8));
+    let d = block_in_range(k, read_number(bytes, block::ACC3_AT, 8));
+    let last = byte_at(bytes, block::STOPPED_AT);
     a & (b & (c & (d & (last < 2))))
 }
 
@@ -98,16 +99,16 @@ fn not_read(reply: Reply) -> Answer
 pub fn read_block(bytes: &[u8]) -> Answer
     ensures { λ r. ⌜ r ≡ readBlock (now (bytes .entry)) ⌝ }
 {
-    if bytes.len() < 5 {
+    if bytes.len() < block::HEAD_BYTES {
         return not_read(Reply::WrongLength);
     }
-    if byte_at(bytes, 0) != 1 {
+    if byte_at(bytes, block::VERSION_AT) != 1 {
         return not_read(Reply::WrongVersion);
     }
-    if bytes.len() != 128 {
+    if bytes.len() != block::BLOCK_BYTES {
         return not_read(Reply::WrongLength);
     }
-    if long_at(bytes, 1) != 123 {
+    if long_at(bytes, block::LENGTH_AT) != block::BLOCK_REST {
         return not_read(Reply::WrongLength);
     }
     let s = state_at(bytes);

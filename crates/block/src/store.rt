@@ -5,6 +5,7 @@ use emac::number::block_number;
 use manual::Cpu;
 use manual::Emac;
 use manual::Reply;
+use manual::block;
 use state::status::admitted;
 use word::flags::bit;
 ghost use mathlib.Core.Path.{_≡_};
@@ -12,7 +13,7 @@ ghost use Prim.Native.Nat.{_+_, _≤_};
 ghost use lib.ListN.{length};
 ghost use Rattle.manual.specs.Memory.{storeAt};
 ghost use Rattle.manual.specs.Emac.{modeOf, accOf, blockNumber};
-ghost use Rattle.manual.specs.Block.{headed, withLongs, withControls, withAccs, withUnit, blockOf, stored, storeBlock};
+ghost use Rattle.manual.specs.Block.{blockBytes, registersAt, headed, withLongs, withControls, withAccs, withUnit, blockOf, stored, storeBlock};
 
 // The n low bytes of v, highest first.
 fn write_number(bytes: &mut [u8], at: usize, n: usize, v: u64)
@@ -37,38 +38,38 @@ fn write_long(bytes: &mut [u8], at: usize, v: u32)
 
 // The old bytes do not matter.
 fn write_head(bytes: &mut [u8])
-    requires { ⌜ length (now bytes) ≡ 128 ⌝ }
+    requires { ⌜ length (now bytes) ≡ blockBytes ⌝ }
     ensures { λ _. ⌜ now (bytes .exit) ≡ headed ⌝ }
 {
     let mut i: usize = 0;
-    while i < 128 {
+    while i < block::BLOCK_BYTES {
         bytes[i] = 0;
         i += 1;
     }
-    write_number(bytes, 0, 1, 1);
-    write_long(bytes, 1, 123);
+    write_number(bytes, block::VERSION_AT, 1, 1);
+    write_long(bytes, block::LENGTH_AT, block::BLOCK_REST);
 }
 
 fn write_registers(bytes: &mut [u8], g: &[u32; 16])
-    requires { ⌜ length (now bytes) ≡ 128 ⌝ }
-    ensures { λ _. ⌜ now (bytes .exit) ≡ withLongs (now (g .entry)) 0 16 5 (now (bytes .entry)) ⌝ }
+    requires { ⌜ length (now bytes) ≡ blockBytes ⌝ }
+    ensures { λ _. ⌜ now (bytes .exit) ≡ withLongs (now (g .entry)) 0 16 registersAt (now (bytes .entry)) ⌝ }
 {
     let mut i: usize = 0;
     while i < 16 {
-        write_long(bytes, 5 + i * 4, g[i]);
+        write_long(bytes, block::REGISTERS_AT + i * 4, g[i]);
         i += 1;
     }
 }
 
 fn write_controls(cpu: Cpu, bytes: &mut [u8])
-    requires { ⌜ length (now bytes) ≡ 128 ⌝ }
+    requires { ⌜ length (now bytes) ≡ blockBytes ⌝ }
     ensures { λ _. ⌜ now (bytes .exit) ≡ withControls cpu (now (bytes .entry)) ⌝ }
 {
-    write_long(bytes, 69, cpu.pc);
-    write_number(bytes, 73, 2, cpu.sr as u64);
-    write_long(bytes, 75, cpu.other);
-    write_long(bytes, 79, cpu.vbr);
-    write_long(bytes, 83, cpu.cacr);
+    write_long(bytes, block::PC_AT, cpu.pc);
+    write_number(bytes, block::SR_AT, 2, cpu.sr as u64);
+    write_long(bytes, block::OTHER_AT, cpu.other);
+    write_long(bytes, block::VBR_AT, cpu.vbr);
+    write_long(bytes, block::CACR_AT, cpu.cacr);
 }
 
 fn number_of(e: Emac, i: u32) -> u64
@@ -78,26 +79,26 @@ fn number_of(e: Emac, i: u32) -> u64
 }
 
 fn write_accs(bytes: &mut [u8], e: Emac)
-    requires { ⌜ length (now bytes) ≡ 128 ⌝ }
+    requires { ⌜ length (now bytes) ≡ blockBytes ⌝ }
     ensures { λ _. ⌜ now (bytes .exit) ≡ withAccs e (now (bytes .entry)) ⌝ }
 {
-    write_number(bytes, 95, 8, number_of(e, 0));
-    write_number(bytes, 103, 8, number_of(e, 1));
-    write_number(bytes, 111, 8, number_of(e, 2));
-    write_number(bytes, 119, 8, number_of(e, 3));
+    write_number(bytes, block::ACC0_AT, 8, number_of(e, 0));
+    write_number(bytes, block::ACC1_AT, 8, number_of(e, 1));
+    write_number(bytes, block::ACC2_AT, 8, number_of(e, 2));
+    write_number(bytes, block::ACC3_AT, 8, number_of(e, 3));
 }
 
 fn write_unit(bytes: &mut [u8], e: Emac)
-    requires { ⌜ length (now bytes) ≡ 128 ⌝ }
+    requires { ⌜ length (now bytes) ≡ blockBytes ⌝ }
     ensures { λ _. ⌜ now (bytes .exit) ≡ withUnit e (now (bytes .entry)) ⌝ }
 {
-    write_long(bytes, 87, e.macsr);
-    write_long(bytes, 91, e.mask);
+    write_long(bytes, block::MACSR_AT, e.macsr);
+    write_long(bytes, block::MASK_AT, e.mask);
     write_accs(bytes, e);
 }
 
 fn write_state(cpu: Cpu, bytes: &mut [u8])
-    requires { ⌜ length (now bytes) ≡ 128 ⌝ }
+    requires { ⌜ length (now bytes) ≡ blockBytes ⌝ }
     ensures { λ _. ⌜ now (bytes .exit) ≡ blockOf cpu ⌝ }
 {
     let g = cpu.r;
@@ -107,13 +108,13 @@ fn write_state(cpu: Cpu, bytes: &mut [u8])
     write_registers(bytes, &g);
     write_controls(cpu, bytes);
     write_unit(bytes, e);
-    write_number(bytes, 127, 1, last as u64);
+    write_number(bytes, block::STOPPED_AT, 1, last as u64);
 }
 
 pub fn store_block(cpu: Cpu, bytes: &mut [u8]) -> Reply
     ensures { λ r. ⌜ stored r (now (bytes .exit)) ≡ storeBlock cpu (now (bytes .entry)) ⌝ }
 {
-    if bytes.len() != 128 {
+    if bytes.len() != block::BLOCK_BYTES {
         return Reply::WrongLength;
     }
     if !admitted(cpu) {

@@ -29,7 +29,7 @@ use Rattle.manual.specs.declared.Change.{Change}
 use Rattle.manual.specs.Word.{plus, sizeOf, signExtended}
 use Rattle.manual.specs.Registers.{dataOf, addressOf}
 use Rattle.manual.specs.Memory.{Memory, storageOf, access, firstFault, found, load, numberAt}
-use Rattle.manual.specs.Address.{operand, extension, source, locate, value, control}
+use Rattle.manual.specs.Address.{operand, extension, source, locate, value, control, destination}
 use Rattle.manual.specs.Differences.{anySize}
 use Rattle.manual.specs.Emac.{has, readExt}
 use Rattle.manual.specs.Exceptions.{supervisor}
@@ -49,7 +49,7 @@ use Rattle.instructions.specs.LineE as le
 use Rattle.instructions.specs.LineF as lf
 use Rattle.demands.specs.Accesses as acc
 use Rattle.demands.specs.Accesses.{Wanted, none, wordAt, longAt, words, named, extensionOf, operandAt, controlAt}
-use Rattle.demands.specs.PartLaws.{refusing, accessAll, Made, refused-number, illegal-made, privilege-made, cond-made, either-made, load-made, missing, missing-found, unreached, reading-only, locate-made, put-made, put-found, locating-made, source-made, source-only, target-made, of-data, missing-immediate, control-missed, reaching-made, end, row, out, listed, all-made}
+use Rattle.demands.specs.PartLaws.{refusing, accessAll, Made, refused-number, illegal-made, privilege-made, cond-made, either-made, load-made, missing, missing-found, unreached, reading-only, locate-made, put-made, locating-made, source-made, source-only, of-data, missing-immediate, control-missed, reaching-made, end, row, out, listed, all-made, put-to-made, destination-found, destination-made}
 
 -- the rows MOVEC_READ, MOVEC_WRITE and MAC, which have words that are not carried, by their places in their lines
 abbrev pub movecRead : ℕ
@@ -97,8 +97,8 @@ module _ (g : List ℕ) (at sr : ℕ) (m : Memory) (op : ℕ) where
   bit-of-byte : (pc n : ℕ) → Made m (operandAt g m pc op Byte) (l0.bitOfByte g pc sr m op n)
   unfolding l0.bitOfByte done
   bit-of-byte pc n =
-      target-made m g pc op Byte _
-      (λ v found. either-made m (eqb (op / 64 % 4) 0) [] _ _ refl (put-found m g _ _ _ _ (locate g m pc (named op) Byte) Byte _ found))
+      destination-made m g pc op Byte _
+      (λ v found. either-made m (eqb (op / 64 % 4) 0) [] _ _ refl (put-to-made m [] g _ (destination g m pc op Byte) Byte _ found))
 
   bit-operation : (pc n : ℕ) → Made m (operandAt g m pc op Byte) (l0.bitOperation g pc sr m op n)
   unfolding l0.bitOperation l0.bitOfData done
@@ -285,7 +285,7 @@ module _ (g : List ℕ) (at sr : ℕ) (m : Memory) (op : ℕ) where
   unfolding l4.clear
   clear-made =
       let z : Size = sizeOf (op / 64) in
-      put-made m (extensionOf (plus at 2) op z) g _ _ _ _ (locate g m (plus at 2) (named op) z) z 0 (locate-made m g (plus at 2) (named op) z)
+      put-to-made m (extensionOf (plus at 2) op z) g _ (destination g m (plus at 2) op z) z 0 (destination-found m g (plus at 2) op z)
 
   test-made : Made m (from (sizeOf (op / 64))) (l4.test g at sr m op)
   unfolding l4.test done
@@ -293,7 +293,7 @@ module _ (g : List ℕ) (at sr : ℕ) (m : Memory) (op : ℕ) where
 
   tas-made : Made m (from Byte) (l4.testAndSet g at sr m op)
   unfolding l4.testAndSet
-  tas-made = target-made m g (plus at 2) op Byte _ (λ v found. put-found m g _ _ _ _ (locate g m (plus at 2) (named op) Byte) Byte _ found)
+  tas-made = destination-made m g (plus at 2) op Byte _ (λ v found. put-to-made m [] g _ (destination g m (plus at 2) op Byte) Byte _ found)
 
   multiply-made : Made m (wordAt (plus at 2) ++ operandAt g m (plus at 4) op Long) (l4.multiply g at sr m op)
   unfolding l4.multiply done
@@ -358,7 +358,7 @@ module _ (g : List ℕ) (at sr : ℕ) (m : Memory) (op : ℕ) where
 
   to-place : (add : Bool) (z : Size) (n : ℕ) → Made m (from z) (l9.toPlace add z g at m op n)
   unfolding l9.toPlace
-  to-place add z n = target-made m g (plus at 2) op z _ (λ v found. put-found m g _ _ _ _ (locate g m (plus at 2) (named op) z) z _ found)
+  to-place add z n = destination-made m g (plus at 2) op z _ (λ v found. put-to-made m [] g _ (destination g m (plus at 2) op z) z _ found)
 
   to-data : (add : Bool) → Made m (from (anySize op)) (l9.toData add g at m op)
   unfolding l9.toData done
@@ -471,7 +471,7 @@ module _ (g : List ℕ) (at sr : ℕ) (m : Memory) (op : ℕ) where
   unfolding lb.logicToPlace
   logic-to-place l =
       let z : Size = anySize op in
-      target-made m g (plus at 2) op z _ (λ v found. put-found m g _ _ _ _ (locate g m (plus at 2) (named op) z) z _ found)
+      destination-made m g (plus at 2) op z _ (λ v found. put-to-made m [] g _ (destination g m (plus at 2) op z) z _ found)
 
   pub lineB-made : (n : ℕ) → Made m (acc.readsB g at m op n) (lb.lineB n g at sr m op)
   unfolding acc.readsB lb.lineB
@@ -528,7 +528,7 @@ module _ (g : List ℕ) (at sr : ℕ) (m : Memory) (op : ℕ) where
   unfolding lf.writeDebugData done
   debug-data =
       let z : Size = sizeOf (op / 64) in
-      locating-made m (extensionOf (plus at 2) op z) (locate g m (plus at 2) (named op) z) _ (locate-made m g (plus at 2) (named op) z) refl
+      locating-made m (extensionOf (plus at 2) op z) (destination g m (plus at 2) op z .place) _ (destination-found m g (plus at 2) op z) refl
 
   pub lineF-made : (n : ℕ) → Made m (acc.readsF g at m op n) (lf.lineF n g at sr m op)
   unfolding acc.readsF lf.lineF enter enterAfter acting
@@ -563,7 +563,7 @@ module _ (g : List ℕ) (at sr : ℕ) (m : Memory) (op : ℕ) where
 
   move-three : Made m (extensionOf (plus at 2) op Long) (la.moveThree g at sr m op)
   unfolding la.moveThree
-  move-three = put-made m (extensionOf (plus at 2) op Long) g _ _ _ _ (locate g m (plus at 2) (named op) Long) Long _ (locate-made m g (plus at 2) (named op) Long)
+  move-three = put-to-made m (extensionOf (plus at 2) op Long) g _ (destination g m (plus at 2) op Long) Long _ (destination-found m g (plus at 2) op Long)
 
   unassigned-made : Made m (from Long) (la.unassigned g at sr m op)
   unfolding la.unassigned enterAfter acting

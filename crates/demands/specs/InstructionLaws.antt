@@ -38,8 +38,8 @@ use Rattle.instructions.specs.LineC as lc
 use Rattle.instructions.specs.LineE as le
 use Rattle.instructions.specs.LineF as lf
 use Rattle.demands.specs.Accesses as acc
-use Rattle.demands.specs.Accesses.{Access, none, wordAt, longAt, Wanted, Inside}
-use Rattle.demands.specs.PartLaws.{missed, Made, refused-4, cond-made, load-made, end, row, out, listed, accessAll, past-inside, refused-number}
+use Rattle.demands.specs.Accesses.{none, wordAt, longAt, Wanted, Inside}
+use Rattle.demands.specs.PartLaws.{Made, cond-made, load-made, end, row, out, listed, accessAll, past-inside, refused-number}
 use Rattle.demands.specs.BodyLaws.{movecRead, movecWrite, macRow, line0-made, line1-made, line2-made, line3-made, line4-made, sums-made, line5-made, line6-made, line7-made, lineB-made, lineC-made, lineE-made, lineF-made, lineA-made}
 use Rattle.demands.specs.AccessLaws.{load-inside, load-not}
 

@@ -23,6 +23,7 @@ use Rattle.manual.specs.declared.Place.the-variants.{D, A, M, I, Fault as NoPla
 use Rattle.manual.specs.declared.Reached.{Reached}
 use Rattle.manual.specs.declared.Reached.the-variants.{At, NoAddress}
 use Rattle.manual.specs.declared.Write.{Write}
+use Rattle.manual.specs.declared.Destination.{Destination}
 use Rattle.manual.specs.declared.Operand.{Operand}
 use Rattle.manual.specs.declared.Operand.the-variants.{Data, Address, Indirect, PostIncrement, PreDecrement, Displaced, Indexed, AbsoluteWord, AbsoluteLong, PcDisplaced, PcIndexed, Immediate, Zero}
 use Rattle.manual.specs.declared.Action.{Action}
@@ -30,11 +31,12 @@ use Rattle.manual.specs.declared.Action.the-variants.{Nothing, Store, StoreMany
 use Rattle.manual.specs.declared.Change.{Change}
 use Rattle.manual.specs.Word.{bytes}
 use Rattle.manual.specs.Memory.{Memory, storageOf, access, taken, firstFault, found, load, numberIn, numberAt}
-use Rattle.manual.specs.Address.{operand, extension, immediate, locate, fetch, value, source, reached, control, _then_}
+use Rattle.manual.specs.Address.{operand, extension, immediate, locate, fetch, value, source, reached, control, _then_, destination}
 use Rattle.manual.specs.Reply.{numberOf, faultReply}
-use Rattle.manual.specs.Change.{done, store, acting, enterAfter, enter, illegal, privilege, refuse, refused, reading, reaching, locating, put}
+use Rattle.manual.specs.Change.{done, store, acting, enterAfter, enter, illegal, privilege, refuse, refused, reading, reaching, locating, put, putTo}
 use Rattle.demands.specs.AccessLaws.{here-or-not, taken-or-not}
 use Rattle.demands.specs.Accesses.{Wanted, wanted, Inside, words, named, own, extensionOf, operandAt, reachedBy, controlAt, SomeOutside, this, another}
+use Rattle.manual.specs.Registers.{noWrite}
 
 -- the number that an action refuses with; 0 where it is no refusal
 abbrev pub refusing : Action → ℕ
@@ -213,9 +215,10 @@ module _ (m : Memory) where
   put-made l g next codes one two (I i) z v e = rw (← e)
   put-made l g next codes one two (NoPlace x) z v e = rw (← e) (refused-number x)
 
-  pub put-found : (g : List ℕ) (next codes : ℕ) (one two : Write) (place : Place) (z : Size) (v : ℕ)
-      → nowhere place ≡ Taken → Made m [] (put g next codes one two place z v)
-  put-found g next codes one two place z v e = put-made [] g next codes one two place z v e
+  pub put-to-made : (l : List Wanted) (g : List ℕ) (codes : ℕ) (to : Destination) (z : Size) (v : ℕ)
+      → nowhere (to .place) ≡ accessAll m l → Made m l (putTo g codes to z v)
+  unfolding putTo
+  put-to-made l g codes to z v e = put-made l g (to .next) codes (to .moved) noWrite (to .place) z v e
 
   pub locating-made : (l : List Wanted) (place : Place) (c : Change) → nowhere place ≡ accessAll m l → Made m [] c → Made m l (locating place c)
   locating-made l (D r) c e h = rw (← e) h
@@ -257,10 +260,16 @@ module _ (m : Memory) where
     pub source-only : (f : ℕ → Change) → ((v : ℕ) → Made m [] (f v)) → Made m (operandAt g m pc op z) (reading (source g m pc op z .got) f)
     source-only f h = reading-only (operandAt g m pc op z) (source g m pc op z .got) f missing-operand h
 
+    -- it is written
+    pub destination-found : nowhere (destination g m pc op z .place) ≡ accessAll m (extensionOf pc op z)
+    unfolding destination
+    destination-found = locate-made g pc (named op) z
+
     -- it is read and written
-    pub target-made : (f : ℕ → Change) → ((v : ℕ) → nowhere (locate g m pc (named op) z) ≡ Taken → Made m [] (f v))
-        → Made m (operandAt g m pc op z) (reading (fetch g m (locate g m pc (named op) z) z) f)
-    target-made f h = fetch-made g z (extensionOf pc op z) (locate g m pc (named op) z) f (locate-made g pc (named op) z) h
+    pub destination-made : (f : ℕ → Change) → ((v : ℕ) → nowhere (destination g m pc op z .place) ≡ Taken → Made m [] (f v))
+        → Made m (operandAt g m pc op z) (reading (fetch g m (destination g m pc op z .place) z) f)
+    unfolding destination
+    destination-made f h = fetch-made g z (extensionOf pc op z) (locate g m pc (named op) z) f (locate-made g pc (named op) z) h
 
   -- a data register takes no access
   pub of-data : (g : List ℕ) (pc op : ℕ) (z : Size) → op / 8 % 8 ≡ 0 → operandAt g m pc op z ≡ []

@@ -33,8 +33,8 @@ use Rattle.state.specs.FirstLaws.{first-admitted, first-kept}
 use Rattle.demands.specs.Refusals.{done-is}
 use Rattle.demands.specs.Runs.{runs}
 use Rattle.demands.specs.Admits.{admits}
-use Rattle.demands.specs.Accesses.{Access, access, SomeOutside, reads0, reads4, reads, leaves, accesses, Wanted, wanted, Inside}
-use Rattle.demands.specs.PartLaws.{missed, missed-some, missed-both, Made, accessAll, numberOr, some-outside, past-inside, both, all-both, refusing}
+use Rattle.demands.specs.Accesses.{SomeOutside, reads0, reads4, reads, leaves, accesses, Wanted, wanted, Inside}
+use Rattle.demands.specs.PartLaws.{Made, accessAll, numberOr, some-outside, past-inside, both, all-both, refusing}
 use Rattle.demands.specs.BodyLaws.{movecRead, movecWrite}
 use Rattle.demands.specs.AccessLaws.{word-lt, fault-number}
 use Rattle.demands.specs.FirstReplies.{first-1, first-2, first-of}

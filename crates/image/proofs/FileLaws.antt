@@ -14,7 +14,8 @@ use Rattle.manual.specs.declared.Reply.the-variants.{Done, NotAdmitted, WrongVe
 use Rattle.manual.specs.Memory.{valueAt}
 use Rattle.manual.specs.Reply.{isDone}
 use Rattle.manual.specs.Admitted.{admitted}
-use Rattle.manual.specs.Image.{imageState, imageReply, imageBytes}
+use Rattle.manual.specs.Block.{versionAt, lengthAt, headBytes}
+use Rattle.manual.specs.Image.{imageMemory, imageHead, programAt, imageState, imageReply, imageBytes}
 use Rattle.memory.specs.MemoryLaws.{value-one}
 
 no {ℓ} : {A : Type ℓ} → false ≡ true → A
@@ -31,19 +32,19 @@ passed false true true true false g h = no h
 passed false true true true true g h = (refl, refl, refl)
 
 -- what is left to decide once the first five bytes are read
-pub with-length : (f : List ℕ) (l : ℕ) → 5 ≤ length f → getD f 0 0 ≡ 1 → l ≡ valueAt f 1 4
-    → imageReply f ≡ cond (leb 14 l && (leb l 49166 && eqb (length f) (5 + l))) (cond (admitted (imageState f)) Done NotAdmitted) WrongLength
+pub with-length : (f : List ℕ) (l : ℕ) → headBytes ≤ length f → getD f 0 0 ≡ 1 → l ≡ valueAt f lengthAt 4
+    → imageReply f ≡ cond (leb imageHead l && (leb l (imageMemory + imageHead) && eqb (length f) (headBytes + l))) (cond (admitted (imageState f)) Done NotAdmitted) WrongLength
 unfolding imageReply
 with-length f l h v e = rw (le-ltb _ _ h, value-one, eq-eqb _ _ v, e)
 
 -- a file that is accepted has its 19 first bytes, and no more after them than memory holds
-pub accepted : (f : List ℕ) → isDone (imageReply f) ≡ true → (19 ≤ length f) × (length f ≤ 49171)
+pub accepted : (f : List ℕ) → isDone (imageReply f) ≡ true → (programAt ≤ length f) × (length f ≤ programAt + imageMemory)
 unfolding imageReply
 accepted f h =
-    let l : ℕ = valueAt f 1 4 in
-    let p = passed (ltb (length f) 5) (eqb (valueAt f 0 1) 1) (leb 14 l) (leb l 49166) (eqb (length f) (5 + l)) (admitted (imageState f)) h in (
-      omega (arith, leb-true 14 l (p .0), eqb-true (length f) (5 + l) (p .2)),
-      omega (arith, leb-true l 49166 (p .1), eqb-true (length f) (5 + l) (p .2)),
+    let l : ℕ = valueAt f lengthAt 4 in
+    let p = passed (ltb (length f) headBytes) (eqb (valueAt f versionAt 1) 1) (leb imageHead l) (leb l (imageMemory + imageHead)) (eqb (length f) (headBytes + l)) (admitted (imageState f)) h in (
+      omega (arith, leb-true imageHead l (p .0), eqb-true (length f) (headBytes + l) (p .2)),
+      omega (arith, leb-true l (imageMemory + imageHead) (p .1), eqb-true (length f) (headBytes + l) (p .2)),
     )
 
 -- ---- zeros after a list are what `getD` reads there
@@ -59,18 +60,18 @@ padded-at (x ∷ l) n zero = refl
 padded-at (x ∷ l) n (suc k) = padded-at l n k
 
 -- one more byte
-pub filled-next : (f m : List ℕ) (i v : ℕ) → i < length m → v ≡ getD f (19 + i) 0 → ((k : ℕ) → k < i → getD m k 0 ≡ getD f (19 + k) 0)
-    → (k : ℕ) → k < i + 1 → getD (set m i v) k 0 ≡ getD f (19 + k) 0
+pub filled-next : (f m : List ℕ) (i v : ℕ) → i < length m → v ≡ getD f (programAt + i) 0 → ((k : ℕ) → k < i → getD m k 0 ≡ getD f (programAt + k) 0)
+    → (k : ℕ) → k < i + 1 → getD (set m i v) k 0 ≡ getD f (programAt + k) 0
 filled-next f m i v h e each =
     below-more _ _
     (λ k l. getD-set-other m i k v 0 (λ s. omega arith) ∙ each k l)
     (getD-set-same m i v 0 h ∙ e)
 
 -- memory is the file's bytes as soon as each byte is
-pub all-filled : (f m : List ℕ) → 19 ≤ length f → length f ≤ 49171 → length m ≡ 49152
-    → ((k : ℕ) → k < 49152 → getD m k 0 ≡ getD f (19 + k) 0) → m ≡ imageBytes f
+pub all-filled : (f m : List ℕ) → programAt ≤ length f → length f ≤ programAt + imageMemory → length m ≡ imageMemory
+    → ((k : ℕ) → k < imageMemory → getD m k 0 ≡ getD f (programAt + k) 0) → m ≡ imageBytes f
 unfolding imageBytes
 all-filled f m low high size each =
     ext-getD 0 m _
-    (size ∙ sym (length-append (drop 19 f) (replicate (49152 - (length f - 19)) 0) ∙ rw (length-drop 19 f, length-replicate) (omega arith)))
-    (λ k h. each k (omega arith) ∙ sym (padded-at (drop 19 f) (49152 - (length f - 19)) k ∙ getD-drop 19 f k 0))
+    (size ∙ sym (length-append (drop programAt f) (replicate (imageMemory - (length f - programAt)) 0) ∙ rw (length-drop programAt f, length-replicate) (omega arith)))
+    (λ k h. each k (omega arith) ∙ sym (padded-at (drop programAt f) (imageMemory - (length f - programAt)) k ∙ getD-drop programAt f k 0))

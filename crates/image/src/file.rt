@@ -2,6 +2,9 @@
 use super::Loaded;
 use manual::Cpu;
 use manual::Reply;
+use manual::block::HEAD_BYTES;
+use manual::block::LENGTH_AT;
+use manual::block::VERSION_AT;
 use memory::long_at;
 use state::fresh::fresh;
 use state::replies::is_done;
@@ -14,21 +17,38 @@ ghost use Prim.Native.Nat.{_+_, _*_, _≤_};
 ghost use lib.ListN.{length, getD};
 ghost use Rattle.manual.specs.Memory.{valueAt};
 ghost use Rattle.manual.specs.Block.{fresh as freshOf};
-ghost use Rattle.manual.specs.Image.{imageState, imageReply, imageBytes, image, loadImage};
+ghost use Rattle.manual.specs.Image.{imageMemory, statusAt, programAt, imageState, imageReply, imageBytes, image, loadImage};
+
+// Where each part of a file lies, as the definition has it.
+const START_AT: usize = 5;
+
+const STACK_AT: usize = 9;
+
+const STATUS_AT: usize = 13;
+
+const BUDGET_AT: usize = 15;
+
+const PROGRAM_AT: usize = 19;
+
+const IMAGE_HEAD: usize = 14;
+
+const IMAGE_MEMORY: usize = 49_152;
+
+const LENGTH_MOST: usize = IMAGE_MEMORY + IMAGE_HEAD;
 
 fn status_at(file: &[u8]) -> u16
-    requires { ⌜ 15 ≤ length (now file) ⌝ }
-    ensures { λ r. ⌜ r ≡ valueAt (now (file .entry)) 13 2 ⌝ }
+    requires { ⌜ programAt ≤ length (now file) ⌝ }
+    ensures { λ r. ⌜ r ≡ valueAt (now (file .entry)) statusAt 2 ⌝ }
 {
-    file[13] as u16 * 0x100 + file[14] as u16
+    file[STATUS_AT] as u16 * 0x100 + file[STATUS_AT + 1] as u16
 }
 
 fn image_state(file: &[u8]) -> Cpu
-    requires { ⌜ 19 ≤ length (now file) ⌝ }
+    requires { ⌜ programAt ≤ length (now file) ⌝ }
     ensures { λ r. ⌜ r ≡ imageState (now (file .entry)) ⌝ }
 {
-    let a7 = long_at(file, 9);
-    let pc = long_at(file, 5);
+    let a7 = long_at(file, STACK_AT);
+    let pc = long_at(file, START_AT);
     let sr = status_at(file);
     with_sr(with_pc(with_address(fresh(), 7, a7), pc), sr)
 }
@@ -36,20 +56,20 @@ fn image_state(file: &[u8]) -> Cpu
 fn image_reply(file: &[u8]) -> Reply
     ensures { λ r. ⌜ r ≡ imageReply (now (file .entry)) ⌝ }
 {
-    if file.len() < 5 {
+    if file.len() < HEAD_BYTES {
         return Reply::WrongLength;
     }
-    if file[0] != 1 {
+    if file[VERSION_AT] != 1 {
         return Reply::WrongVersion;
     }
-    let l = long_at(file, 1) as usize;
-    if l < 14 {
+    let l = long_at(file, LENGTH_AT) as usize;
+    if l < IMAGE_HEAD {
         return Reply::WrongLength;
     }
-    if 49_166 < l {
+    if LENGTH_MOST < l {
         return Reply::WrongLength;
     }
-    if file.len() != 5 + l {
+    if file.len() != HEAD_BYTES + l {
         return Reply::WrongLength;
     }
     if admitted(image_state(file)) {
@@ -60,17 +80,17 @@ fn image_reply(file: &[u8]) -> Reply
 
 // The byte for an address: 0 after the file's end.
 fn image_byte(file: &[u8], at: usize) -> u8
-    requires { ⌜ 19 ≤ length (now file) ⌝ }
-    ensures { λ r. ⌜ r ≡ getD (now (file .entry)) (19 + at) 0 ⌝ }
+    requires { ⌜ programAt ≤ length (now file) ⌝ }
+    ensures { λ r. ⌜ r ≡ getD (now (file .entry)) (programAt + at) 0 ⌝ }
 {
-    if at < file.len() - 19 {
-        return file[19 + at];
+    if at < file.len() - PROGRAM_AT {
+        return file[PROGRAM_AT + at];
     }
     0
 }
 
 fn fill(file: &[u8], mem: &mut [u8])
-    requires { ⌜ (19 ≤ length (now file)) × (length (now file) ≤ 49171) × (length (now mem) ≡ 49152) ⌝ }
+    requires { ⌜ (programAt ≤ length (now file)) × (length (now file) ≤ programAt + imageMemory) × (length (now mem) ≡ imageMemory) ⌝ }
     ensures { λ _. ⌜ now (mem .exit) ≡ imageBytes (now (file .entry)) ⌝ }
 {
     let mut at: usize = 0;
@@ -94,14 +114,14 @@ fn not_loaded(reply: Reply) -> Loaded
 pub fn read_image(file: &[u8], mem: &mut [u8]) -> Loaded
     ensures { λ r. ⌜ image (r .reply) (r .budget) (r .cpu) (now (mem .exit)) ≡ loadImage (now (file .entry)) (now (mem .entry)) ⌝ }
 {
-    if mem.len() != 49_152 {
+    if mem.len() != IMAGE_MEMORY {
         return not_loaded(Reply::WrongLength);
     }
     let reply = image_reply(file);
     if !is_done(reply) {
         return not_loaded(reply);
     }
-    let budget = long_at(file, 15);
+    let budget = long_at(file, BUDGET_AT);
     let cpu = image_state(file);
     fill(file, mem);
     Loaded {

@@ -6,10 +6,9 @@ use lib.Dec.{eqb, ltb}
 use lib.ListN.{getD}
 use Rattle.manual.specs.declared.Size.{Size}
 use Rattle.manual.specs.declared.Size.the-variants.{Byte, Word, Long}
-use Rattle.manual.specs.declared.Operand.{Operand}
 use Rattle.manual.specs.declared.Operand.the-variants.{Immediate}
 use Rattle.manual.specs.declared.Source.{Source}
-use Rattle.manual.specs.declared.Place.{Place}
+use Rattle.manual.specs.declared.Destination.{Destination}
 use Rattle.manual.specs.declared.Write.{Write}
 use Rattle.manual.specs.declared.Change.{Change}
 use lib.Count.{leadingZeros}
@@ -21,8 +20,8 @@ use Rattle.manual.specs.Bits.{logic, bitOf, changedBit, reversedBits, reversedB
 use Rattle.manual.specs.Registers.{dataOf, noWrite, writeData}
 use Rattle.manual.specs.Flags.{moveCodes, keptCodes, sumCodes, compareCodes, testCodes, sumOrDifference, subtracted}
 use Rattle.manual.specs.Memory.{Memory, load}
-use Rattle.manual.specs.Address.{operand, extension, moved, locate, fetch, value}
-use Rattle.manual.specs.Change.{done, reading, put, illegal}
+use Rattle.manual.specs.Address.{operand, extension, moved, locate, fetch, value, destination}
+use Rattle.manual.specs.Change.{done, reading, put, illegal, putTo}
 use Rattle.instructions.specs.Rows.{firstRow, placeIn}
 
 -- BITREV Dx: no condition codes
@@ -71,13 +70,12 @@ bitOfData g pc sr op n =
 -- of a byte anywhere else: bit n modulo 8. A test stores nothing
 unfoldable pub bitOfByte : List ℕ → ℕ → ℕ → Memory → ℕ → ℕ → Change
 bitOfByte g pc sr m op n =
-    let target : Operand = operand (op / 8 % 8) (op % 8) in
-    let place : Place = locate g m pc target Byte in
-    let next : ℕ = plus pc (extension target Byte) in
-    reading (fetch g m place Byte) λ v.
+    let to : Destination = destination g m pc op Byte in
+    reading (fetch g m (to .place) Byte) λ v.
+    let codes : ℕ = testCodes sr (not (bitOf (n % 8) v)) in
     cond (eqb (op / 64 % 4) 0)
-    (done next (testCodes sr (not (bitOf (n % 8) v))) (moved g target Byte) noWrite)
-    (put g next (testCodes sr (not (bitOf (n % 8) v))) (moved g target Byte) noWrite place Byte (changedBit (op / 64) (n % 8) v))
+    (done (to .next) codes (to .moved) noWrite)
+    (putTo g codes to Byte (changedBit (op / 64) (n % 8) v))
 
 unfoldable pub bitOperation : List ℕ → ℕ → ℕ → Memory → ℕ → ℕ → Change
 bitOperation g pc sr m op n = cond (eqb (op / 8 % 8) 0) (bitOfData g pc sr op n) (bitOfByte g pc sr m op n)

@@ -10,7 +10,7 @@ use Rattle.manual.specs.declared.Size.the-variants.{Byte, Word, Long}
 use Rattle.manual.specs.declared.Operand.{Operand}
 use Rattle.manual.specs.declared.Operand.the-variants.{Immediate}
 use Rattle.manual.specs.declared.Source.{Source}
-use Rattle.manual.specs.declared.Place.{Place}
+use Rattle.manual.specs.declared.Destination.{Destination}
 use Rattle.manual.specs.declared.Write.{Write}
 use Rattle.manual.specs.declared.Change.{Change}
 use Rattle.manual.specs.declared.Sum.{Sum}
@@ -25,8 +25,8 @@ use Rattle.manual.specs.Registers.{dataOf, addressOf, noWrite, writeData, write
 use Rattle.manual.specs.Flags.{flagX, flagV, moveCodes, keptCodes, sumCodes, extendedCodes, subtracted}
 use Rattle.manual.specs.Exceptions.{supervisor}
 use Rattle.manual.specs.Memory.{Memory, load}
-use Rattle.manual.specs.Address.{operand, extension, source, moved, locate, fetch, control}
-use Rattle.manual.specs.Change.{done, store, acting, enter, enterAfter, illegal, privilege, notCarried, jump, push, reading, reaching, put}
+use Rattle.manual.specs.Address.{operand, extension, source, moved, locate, fetch, control, destination}
+use Rattle.manual.specs.Change.{done, store, acting, enter, enterAfter, illegal, privilege, notCarried, jump, push, reading, reaching, put, putTo}
 use Rattle.instructions.specs.Rows.{firstRow, placeIn}
 
 -- the operand that bits 5 to 0 name
@@ -222,8 +222,7 @@ complement g at sr op =
 unfoldable pub clear : List ℕ → ℕ → ℕ → Memory → ℕ → Change
 clear g at sr m op =
     let z : Size = sizeOf (op / 64) in
-    let pc : ℕ = plus at 2 in
-    put g (plus pc (extension (named op) z)) (moveCodes z 0 sr) (moved g (named op) z) noWrite (locate g m pc (named op) z) z 0
+    putTo g (moveCodes z 0 sr) (destination g m (plus at 2) op z) z 0
 
 unfoldable pub test : List ℕ → ℕ → ℕ → Memory → ℕ → Change
 test g at sr m op =
@@ -235,21 +234,28 @@ test g at sr m op =
 -- TAS: a byte is tested, and its highest bit set
 unfoldable pub testAndSet : List ℕ → ℕ → ℕ → Memory → ℕ → Change
 testAndSet g at sr m op =
-    let pc : ℕ = plus at 2 in
-    let place : Place = locate g m pc (named op) Byte in
-    reading (fetch g m place Byte) λ v.
-    put g (plus pc (extension (named op) Byte)) (moveCodes Byte v sr) (moved g (named op) Byte) noWrite place Byte (withBit 7 true v)
+    let to : Destination = destination g m (plus at 2) op Byte in
+    reading (fetch g m (to .place) Byte) λ v.
+    putTo g (moveCodes Byte v sr) to Byte (withBit 7 true v)
 
--- MULU.L and MULS.L: bits 14 to 12 of the second word name the register, and bit 11 says signed
-unfoldable pub multiply : List ℕ → ℕ → ℕ → Memory → ℕ → Change
-multiply g at sr m op =
+-- products and quotients of longs: goes on with the second word, the operand after it and the operand's value
+abbrev pub withWord : List ℕ → ℕ → Memory → ℕ → (ℕ → Source → ℕ → Change) → Change
+withWord g at m op f =
     let pc : ℕ = plus at 2 in
     reading (load m pc Word) λ w.
     let from : Source = source g m (plus pc 2) op Long in
     reading (from .got) λ v.
+    f w from v
+
+-- MULU.L and MULS.L: bits 14 to 12 of the second word name the register, and bit 11 says signed
+abbrev pub multiplyBy : List ℕ → ℕ → ℕ → Source → ℕ → Change
+multiplyBy g sr w from v =
     let d : ℕ = dataOf g (w / 0x1000) in
     let r : ℕ = cond (eqb (w / 0x800 % 2) 1) (signedLongProduct d v) (longProduct d v) in
     done (from .next) (moveCodes Long r sr) (from .moved) (writeData (w / 0x1000) r)
+
+unfoldable pub multiply : List ℕ → ℕ → ℕ → Memory → ℕ → Change
+multiply g at sr m op = withWord g at m op (multiplyBy g sr)
 
 -- DIVU.L and DIVS.L; bits 2 to 0 of the second word name another register for REMU.L and REMS.L, whose condition codes are the
 -- quotient's too
@@ -259,18 +265,17 @@ divided w d v = cond (eqb (w / 0x800 % 2) 1) (signedQuotient d v) (quotient d v)
 abbrev pub quotientTo : ℕ → Quotient → Write
 quotientTo w q = cond (eqb (w / 0x1000 % 8) (w % 8)) (writeData w (q .quotient)) (writeData w (q .remainder))
 
-unfoldable pub divide : List ℕ → ℕ → ℕ → Memory → ℕ → Change
-divide g at sr m op =
-    let pc : ℕ = plus at 2 in
-    reading (load m pc Word) λ w.
-    let from : Source = source g m (plus pc 2) op Long in
-    reading (from .got) λ v.
+abbrev pub divideBy : List ℕ → ℕ → ℕ → Source → ℕ → Change
+divideBy g sr w from v =
     let q : Quotient = divided w (dataOf g (w / 0x1000)) v in
     -- 1. a divide by zero has the next instruction's pc in its frame. The manual: the divide's
     cond (eqb v 0) (enterAfter (from .moved) sr 5 (from .next))
     (cond (q .fits)
     (done (from .next) (moveCodes Long (q .quotient) sr) (from .moved) (quotientTo w q))
     (done (from .next) (overflowCodes sr) (from .moved) noWrite))
+
+unfoldable pub divide : List ℕ → ℕ → ℕ → Memory → ℕ → Change
+divide g at sr m op = withWord g at m op (divideBy g sr)
 
 -- ---- the rows of the line; every other word is illegal
 

@@ -6,17 +6,16 @@ use lib.Dec.{eqb, ltb}
 use lib.ListN.{getD}
 use Rattle.manual.specs.declared.Size.{Size}
 use Rattle.manual.specs.declared.Size.the-variants.{Byte, Word, Long}
-use Rattle.manual.specs.declared.Operand.{Operand}
 use Rattle.manual.specs.declared.Source.{Source}
-use Rattle.manual.specs.declared.Place.{Place}
+use Rattle.manual.specs.declared.Destination.{Destination}
 use Rattle.manual.specs.declared.Write.{Write}
 use Rattle.manual.specs.declared.Sum.{Sum}
 use Rattle.manual.specs.declared.Change.{Change}
 use Rattle.manual.specs.Word.{plus, minus, merged, signExtended}
 use Rattle.manual.specs.Registers.{dataOf, addressOf, noWrite, writeData, writeAddress, written}
 use Rattle.manual.specs.Flags.{flagX, keptCodes, sumCodes, extendedCodes, sumOrDifference}
-use Rattle.manual.specs.Address.{operand, extension, source, moved, locate, fetch}
-use Rattle.manual.specs.Change.{done, reading, put, illegal}
+use Rattle.manual.specs.Address.{source, destination, fetch}
+use Rattle.manual.specs.Change.{done, reading, putTo, illegal}
 use Rattle.manual.specs.Differences.{anySize}
 use Rattle.manual.specs.Memory.{Memory}
 use Rattle.instructions.specs.Rows.{firstRow, placeIn}
@@ -34,12 +33,10 @@ toData add g at m op =
 -- a number is added to a place or taken from it: ADD Dn,<ea> and SUB Dn,<ea>, ADDQ and SUBQ
 unfoldable pub toPlace : Bool → Size → List ℕ → ℕ → Memory → ℕ → ℕ → Change
 toPlace add z g at m op n =
-    let target : Operand = operand (op / 8 % 8) (op % 8) in
-    let pc : ℕ = plus at 2 in
-    let place : Place = locate g m pc target z in
-    reading (fetch g m place z) λ v.
+    let to : Destination = destination g m (plus at 2) op z in
+    reading (fetch g m (to .place) z) λ v.
     let r : Sum = sumOrDifference add z n v false in
-    put g (plus pc (extension target z)) (sumCodes r) (moved g target z) noWrite place z (r .value)
+    putTo g (sumCodes r) to z (r .value)
 
 unfoldable pub toMemory : Bool → List ℕ → ℕ → Memory → ℕ → Change
 toMemory add g at m op = toPlace add (anySize op) g at m op (dataOf g (op / 512))

@@ -6,9 +6,7 @@ use lib.Dec.{eqb, ltb}
 use lib.ListN.{getD}
 use Rattle.manual.specs.declared.Size.{Size}
 use Rattle.manual.specs.declared.Size.the-variants.{Byte, Word, Long}
-use Rattle.manual.specs.declared.Operand.{Operand}
 use Rattle.manual.specs.declared.Source.{Source}
-use Rattle.manual.specs.declared.Place.{Place}
 use Rattle.manual.specs.declared.Write.{Write}
 use Rattle.manual.specs.declared.Sum.{Sum}
 use Rattle.manual.specs.declared.Change.{Change}
@@ -22,8 +20,8 @@ use Rattle.manual.specs.Word.{plus, minus, signExtended}
 use Rattle.manual.specs.Registers.{addressOf, general, noWrite, writeAddress, writeGeneral}
 use Rattle.manual.specs.Flags.{codes, moveCodes, keptCodes}
 use Rattle.manual.specs.Memory.{Memory, load}
-use Rattle.manual.specs.Address.{operand, extension, source, moved, locate}
-use Rattle.manual.specs.Change.{done, acting, enter, enterAfter, notCarried, reading, put}
+use Rattle.manual.specs.Address.{operand, extension, source, moved, locate, destination}
+use Rattle.manual.specs.Change.{done, acting, enter, enterAfter, notCarried, reading, put, putTo}
 use Rattle.manual.specs.Emac.{has, modeOf, accOf, readAcc, readExt}
 use Rattle.instructions.specs.Rows.{firstRow, placeIn}
 
@@ -72,10 +70,8 @@ threeBits op = cond (eqb (op / 512 % 8) 0) 0xFFFF_FFFF (op / 512 % 8)
 
 unfoldable pub moveThree : List ℕ → ℕ → ℕ → Memory → ℕ → Change
 moveThree g at sr m op =
-    let target : Operand = operand (op / 8 % 8) (op % 8) in
-    let pc : ℕ = plus at 2 in
     let v : ℕ = threeBits op in
-    put g (plus pc (extension target Long)) (moveCodes Long v sr) (moved g target Long) noWrite (locate g m pc target Long) Long v
+    putTo g (moveCodes Long v sr) (destination g m (plus at 2) op Long) Long v
 
 -- 14. A word of the line with no row of its own reads a long operand first. The manual: vector 10, and no operand
 unfoldable pub unassigned : List ℕ → ℕ → ℕ → Memory → ℕ → Change

@@ -6,9 +6,8 @@ use lib.Dec.{eqb, ltb}
 use lib.ListN.{getD}
 use Rattle.manual.specs.declared.Size.{Size}
 use Rattle.manual.specs.declared.Size.the-variants.{Byte, Word, Long}
-use Rattle.manual.specs.declared.Operand.{Operand}
 use Rattle.manual.specs.declared.Source.{Source}
-use Rattle.manual.specs.declared.Place.{Place}
+use Rattle.manual.specs.declared.Destination.{Destination}
 use Rattle.manual.specs.declared.Write.{Write}
 use Rattle.manual.specs.declared.Sum.{Sum}
 use Rattle.manual.specs.declared.Change.{Change}
@@ -18,8 +17,8 @@ use Rattle.manual.specs.Word.{plus, signExtended, sizeOf}
 use Rattle.manual.specs.Bits.{logic}
 use Rattle.manual.specs.Registers.{dataOf, addressOf, noWrite, written}
 use Rattle.manual.specs.Flags.{moveCodes, compareCodes, subtracted}
-use Rattle.manual.specs.Address.{operand, extension, source, moved, locate, fetch}
-use Rattle.manual.specs.Change.{done, reading, put}
+use Rattle.manual.specs.Address.{source, destination, fetch}
+use Rattle.manual.specs.Change.{done, reading, putTo}
 use Rattle.manual.specs.Differences.{anySize}
 use Rattle.manual.specs.Memory.{Memory}
 use Rattle.instructions.specs.Rows.{firstRow, placeIn}
@@ -45,12 +44,10 @@ compareAddress z g at sr m op =
 unfoldable pub logicToPlace : Logic → List ℕ → ℕ → ℕ → Memory → ℕ → Change
 logicToPlace l g at sr m op =
     let z : Size = anySize op in
-    let target : Operand = operand (op / 8 % 8) (op % 8) in
-    let pc : ℕ = plus at 2 in
-    let place : Place = locate g m pc target z in
-    reading (fetch g m place z) λ v.
+    let to : Destination = destination g m (plus at 2) op z in
+    reading (fetch g m (to .place) z) λ v.
     let r : ℕ = logic l v (dataOf g (op / 512)) in
-    put g (plus pc (extension target z)) (moveCodes z r sr) (moved g target z) noWrite place z r
+    putTo g (moveCodes z r sr) to z r
 
 -- ---- the rows of the line
 

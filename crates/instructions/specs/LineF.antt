@@ -8,7 +8,7 @@ use Rattle.manual.specs.declared.Size.{Size}
 use Rattle.manual.specs.declared.Size.the-variants.{Byte, Word, Long}
 use Rattle.manual.specs.declared.Operand.{Operand}
 use Rattle.manual.specs.declared.Source.{Source}
-use Rattle.manual.specs.declared.Place.{Place}
+use Rattle.manual.specs.declared.Destination.{Destination}
 use Rattle.manual.specs.declared.Write.{Write}
 use Rattle.manual.specs.declared.Sum.{Sum}
 use Rattle.manual.specs.declared.Change.{Change}
@@ -20,7 +20,7 @@ use Rattle.manual.specs.Word.{plus, sizeOf}
 use Rattle.manual.specs.Registers.{noWrite}
 use Rattle.manual.specs.Flags.{keptCodes}
 use Rattle.manual.specs.Exceptions.{supervisor}
-use Rattle.manual.specs.Address.{operand, extension, moved, locate, control}
+use Rattle.manual.specs.Address.{operand, extension, destination, control}
 use Rattle.manual.specs.Change.{done, enter, privilege, jump, refused, locating}
 use Rattle.manual.specs.Memory.{Memory}
 use Rattle.instructions.specs.Rows.{firstRow, placeIn}
@@ -44,10 +44,8 @@ cacheLine at sr = cond (supervisor sr) (jump sr (plus at 2)) (privilege at sr)
 -- 31. WDDATA does not read its operand; its register moves. The manual: the operand is read
 unfoldable pub writeDebugData : List ℕ → ℕ → ℕ → Memory → ℕ → Change
 writeDebugData g at sr m op =
-    let z : Size = sizeOf (op / 64) in
-    let target : Operand = operand (op / 8 % 8) (op % 8) in
-    let pc : ℕ = plus at 2 in
-    locating (locate g m pc target z) (done (plus pc (extension target z)) (keptCodes sr) (moved g target z) noWrite)
+    let to : Destination = destination g m (plus at 2) op (sizeOf (op / 64)) in
+    locating (to .place) (done (to .next) (keptCodes sr) (to .moved) noWrite)
 
 -- ---- the rows of the line; every other word enters vector 11
 

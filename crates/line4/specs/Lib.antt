@@ -1,1 +1,2 @@
-pub mod Aimed
+pub mod ControlAddress
+pub mod Words

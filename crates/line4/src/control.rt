@@ -29,7 +29,7 @@ ghost use Prim.Native.Nat.{_+_, _*_, _/_, _%_, _<_};
 ghost use Rattle.manual.specs.Memory.{mapped};
 ghost use Rattle.manual.specs.Registers.{noWrite};
 ghost use Rattle.manual.specs.Change.{acting as actingOf};
-ghost use Rattle.line4.specs.Aimed.{aim as aimOf};
+ghost use Rattle.line4.specs.ControlAddress.{controlAddress as controlAddressOf};
 ghost use Rattle.instructions.specs.Line4.{nothing, lea as leaOf, pea as peaOf, jsr as jsrOf, jmp as jmpOf, rts as rtsOf, trap as trapOf, link as linkOf, unlk as unlkOf, many as manyOf, moveMany};
 
 pub fn nop(at: u32, sr: u16) -> Change
@@ -44,8 +44,8 @@ pub enum Way {
     Ends(Change),
 }
 
-fn aim(g: &[u32; 16], at: u32, sr: u16, mem: &[u8], op: u32) -> Way
-    ensures { λ w. ⌜ w ≡ aimOf (now (g .entry)) at sr (mapped (now (mem .entry))) op ⌝ }
+fn control_address(g: &[u32; 16], at: u32, sr: u16, mem: &[u8], op: u32) -> Way
+    ensures { λ w. ⌜ w ≡ controlAddressOf (now (g .entry)) at sr (mapped (now (mem .entry))) op ⌝ }
 {
     let pc = plus(at, 2);
     let target = operand(op / 8 % 8, op % 8);
@@ -63,7 +63,7 @@ pub fn lea(g: &[u32; 16], at: u32, sr: u16, mem: &[u8], op: u32) -> Change
 {
     let codes = kept_codes(sr);
     let none = no_write();
-    match aim(g, at, sr, mem, op) {
+    match control_address(g, at, sr, mem, op) {
         Way::To(a, next) => done(next, codes, none, write_address(op / 512, a)),
         Way::Ends(e) => e,
     }
@@ -72,7 +72,7 @@ pub fn lea(g: &[u32; 16], at: u32, sr: u16, mem: &[u8], op: u32) -> Change
 pub fn pea(g: &[u32; 16], at: u32, sr: u16, mem: &[u8], op: u32) -> Change
     ensures { λ e. ⌜ e ≡ peaOf (now (g .entry)) at sr (mapped (now (mem .entry))) op ⌝ }
 {
-    match aim(g, at, sr, mem, op) {
+    match control_address(g, at, sr, mem, op) {
         Way::To(a, next) => push(g, sr, next, a),
         Way::Ends(e) => e,
     }
@@ -81,7 +81,7 @@ pub fn pea(g: &[u32; 16], at: u32, sr: u16, mem: &[u8], op: u32) -> Change
 pub fn jsr(g: &[u32; 16], at: u32, sr: u16, mem: &[u8], op: u32) -> Change
     ensures { λ e. ⌜ e ≡ jsrOf (now (g .entry)) at sr (mapped (now (mem .entry))) op ⌝ }
 {
-    match aim(g, at, sr, mem, op) {
+    match control_address(g, at, sr, mem, op) {
         Way::To(a, next) => push(g, sr, a, next),
         Way::Ends(e) => e,
     }
@@ -90,7 +90,7 @@ pub fn jsr(g: &[u32; 16], at: u32, sr: u16, mem: &[u8], op: u32) -> Change
 pub fn jmp(g: &[u32; 16], at: u32, sr: u16, mem: &[u8], op: u32) -> Change
     ensures { λ e. ⌜ e ≡ jmpOf (now (g .entry)) at sr (mapped (now (mem .entry))) op ⌝ }
 {
-    match aim(g, at, sr, mem, op) {
+    match control_address(g, at, sr, mem, op) {
         Way::To(a, _) => jump(sr, a),
         Way::Ends(e) => e,
     }

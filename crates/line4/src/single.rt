@@ -1,13 +1,10 @@
 // Line 4: instructions of one operand, products and quotients.
 use address::changes::done;
 use address::changes::enter_after;
-use address::changes::put;
+use address::changes::put_to;
 use address::changes::refused;
-use address::operands::extension;
+use address::operands::destination;
 use address::operands::fetch;
-use address::operands::locate;
-use address::operands::moved;
-use address::operands::operand;
 use address::operands::source;
 use arith::divide::overflow_codes;
 use arith::divide::quotient;
@@ -21,6 +18,7 @@ use manual::Quotient;
 use manual::Size;
 use manual::Write;
 use memory::load;
+use word::bits::with_bit;
 use word::flags::extended_codes;
 use word::flags::move_codes;
 use word::flags::subtracted;
@@ -34,18 +32,18 @@ use word::word::plus;
 use word::word::sign_extended;
 use word::word::size_of;
 ghost use mathlib.Core.Path.{_≡_};
-ghost use mathlib.Core.Bool.{true, cond};
+ghost use mathlib.Core.Bool.{cond};
 ghost use lib.Dec.{eqb};
 ghost use Prim.Native.Nat.{_+_, _*_, _/_, _%_, _<_};
 ghost use Rattle.manual.specs.Memory.{mapped};
 ghost use Rattle.manual.specs.declared.Size.the-variants.{Long};
 ghost use Rattle.manual.specs.Word.{plus as plusOf};
-ghost use Rattle.manual.specs.Bits.{withBit};
 ghost use Rattle.manual.specs.Registers.{noWrite, writeData};
 ghost use Rattle.manual.specs.Flags.{moveCodes};
 ghost use Rattle.manual.specs.Multiply.{longProduct, signedLongProduct};
 ghost use Rattle.manual.specs.Divide.{overflowCodes};
 ghost use Rattle.manual.specs.Change.{done as doneOf};
+ghost use Rattle.line4.specs.Words.{wordAndLong};
 ghost use Rattle.instructions.specs.Line4.{extendByte, extendToWord, extendToLong, swap as swapOf, saturated as saturatedOf, saturate, negate, negateExtended, complement, clear, test, testAndSet, multiply, divided as dividedOf, quotientTo, divide};
 
 // A long into Dn, with the condition codes of a move.
@@ -142,13 +140,8 @@ pub fn clr(g: &[u32; 16], at: u32, sr: u16, mem: &[u8], op: u32) -> Change
     ensures { λ e. ⌜ e ≡ clear (now (g .entry)) at sr (mapped (now (mem .entry))) op ⌝ }
 {
     let z = size_of(op / 64);
-    let pc = plus(at, 2);
-    let target = operand(op / 8 % 8, op % 8);
-    let place = locate(g, mem, pc, target, z);
-    let next = plus(pc, extension(target, z));
-    let codes = move_codes(z, 0, sr);
-    let first = moved(g, target, z);
-    put(g, next, codes, first, no_write(), place, z, 0)
+    let to = destination(g, mem, plus(at, 2), op, z);
+    put_to(g, move_codes(z, 0, sr), to, z, 0)
 }
 
 pub fn tst(g: &[u32; 16], at: u32, sr: u16, mem: &[u8], op: u32) -> Change
@@ -167,36 +160,17 @@ pub fn tst(g: &[u32; 16], at: u32, sr: u16, mem: &[u8], op: u32) -> Change
     done(next, codes, first, no_write())
 }
 
-fn with_bit_7(v: u32) -> u32
-    ensures { λ r. ⌜ r ≡ withBit 7 true v ⌝ }
-{
-    if v / 0x80 % 2 == 1 { v } else { v + 0x80 }
-}
-
 pub fn tas(g: &[u32; 16], at: u32, sr: u16, mem: &[u8], op: u32) -> Change
     ensures { λ e. ⌜ e ≡ testAndSet (now (g .entry)) at sr (mapped (now (mem .entry))) op ⌝ }
 {
-    let pc = plus(at, 2);
-    let target = operand(op / 8 % 8, op % 8);
-    let place = locate(g, mem, pc, target, Size::Byte);
+    let to = destination(g, mem, plus(at, 2), op, Size::Byte);
+    let place = to.place;
     let v = match fetch(g, mem, place, Size::Byte) {
         Got::Value(v) => v,
         Got::Fault(x) => return refused(x),
     };
-    let next = plus(pc, extension(target, Size::Byte));
     let codes = move_codes(Size::Byte, v, sr);
-    let first = moved(g, target, Size::Byte);
-    let none = no_write();
-    put(
-        g,
-        next,
-        codes,
-        first,
-        none,
-        place,
-        Size::Byte,
-        with_bit_7(v),
-    )
+    put_to(g, codes, to, Size::Byte, with_bit(7, true, v))
 }
 
 pub fn product(w: u32, d: u32, v: u32) -> u32
@@ -209,25 +183,40 @@ pub fn product(w: u32, d: u32, v: u32) -> u32
     }
 }
 
-pub fn mul_l(g: &[u32; 16], at: u32, sr: u16, mem: &[u8], op: u32) -> Change
-    ensures { λ e. ⌜ e ≡ multiply (now (g .entry)) at sr (mapped (now (mem .entry))) op ⌝ }
+// What products and quotients of longs read: the second word, the operand's value, the next address and the operand's move.
+pub enum WordAndLong {
+    Read(u32, u32, u32, Write),
+    Fault(Fault),
+}
+
+fn word_and_long(g: &[u32; 16], at: u32, mem: &[u8], op: u32) -> WordAndLong
+    ensures { λ r. ⌜ r ≡ wordAndLong (now (g .entry)) at (mapped (now (mem .entry))) op ⌝ }
 {
     let pc = plus(at, 2);
     let w = match load(mem, pc, Size::Word) {
         Got::Value(w) => w,
-        Got::Fault(x) => return refused(x),
+        Got::Fault(x) => return WordAndLong::Fault(x),
     };
     let from = source(g, mem, plus(pc, 2), op, Size::Long);
     let got = from.got;
-    let v = match got {
-        Got::Value(v) => v,
-        Got::Fault(x) => return refused(x),
-    };
-    let next = from.next;
     let first = from.moved;
-    let r = product(w, data(g, w / 0x1000), v);
-    let codes = move_codes(Size::Long, r, sr);
-    done(next, codes, first, write_data(w / 0x1000, r))
+    match got {
+        Got::Value(v) => WordAndLong::Read(w, v, from.next, first),
+        Got::Fault(x) => WordAndLong::Fault(x),
+    }
+}
+
+pub fn mul_l(g: &[u32; 16], at: u32, sr: u16, mem: &[u8], op: u32) -> Change
+    ensures { λ e. ⌜ e ≡ multiply (now (g .entry)) at sr (mapped (now (mem .entry))) op ⌝ }
+{
+    match word_and_long(g, at, mem, op) {
+        WordAndLong::Read(w, v, next, first) => {
+            let r = product(w, data(g, w / 0x1000), v);
+            let codes = move_codes(Size::Long, r, sr);
+            done(next, codes, first, write_data(w / 0x1000, r))
+        }
+        WordAndLong::Fault(x) => refused(x),
+    }
 }
 
 fn divided(w: u32, d: u32, v: u32) -> Quotient
@@ -266,22 +255,14 @@ fn quotient_done(next: u32, sr: u16, first: Write, w: u32, q: Quotient) -> Chang
 pub fn div_l(g: &[u32; 16], at: u32, sr: u16, mem: &[u8], op: u32) -> Change
     ensures { λ e. ⌜ e ≡ divide (now (g .entry)) at sr (mapped (now (mem .entry))) op ⌝ }
 {
-    let pc = plus(at, 2);
-    let w = match load(mem, pc, Size::Word) {
-        Got::Value(w) => w,
-        Got::Fault(x) => return refused(x),
-    };
-    let from = source(g, mem, plus(pc, 2), op, Size::Long);
-    let got = from.got;
-    let v = match got {
-        Got::Value(v) => v,
-        Got::Fault(x) => return refused(x),
-    };
-    let next = from.next;
-    let first = from.moved;
-    if v == 0 {
-        return enter_after(first, sr, 5, next);
+    match word_and_long(g, at, mem, op) {
+        WordAndLong::Read(w, v, next, first) => {
+            if v == 0 {
+                return enter_after(first, sr, 5, next);
+            }
+            let q = divided(w, data(g, w / 0x1000), v);
+            quotient_done(next, sr, first, w, q)
+        }
+        WordAndLong::Fault(x) => refused(x),
     }
-    let q = divided(w, data(g, w / 0x1000), v);
-    quotient_done(next, sr, first, w, q)
 }

@@ -2,12 +2,9 @@
 use address::changes::acting;
 use address::changes::done;
 use address::changes::enter_after;
-use address::changes::put;
+use address::changes::put_to;
 use address::changes::refused;
-use address::operands::extension;
-use address::operands::locate;
-use address::operands::moved;
-use address::operands::operand;
+use address::operands::destination;
 use address::operands::source;
 use manual::Action;
 use manual::Change;
@@ -99,14 +96,9 @@ fn three_bits(op: u32) -> u32
 pub(crate) fn mov3q(g: &[u32; 16], at: u32, sr: u16, mem: &[u8], op: u32) -> Change
     ensures { λ e. ⌜ e ≡ moveThree (now (g .entry)) at sr (mapped (now (mem .entry))) op ⌝ }
 {
-    let target = operand(op / 8 % 8, op % 8);
-    let pc = plus(at, 2);
     let v = three_bits(op);
-    let place = locate(g, mem, pc, target, Size::Long);
-    let next = plus(pc, extension(target, Size::Long));
-    let codes = move_codes(Size::Long, v, sr);
-    let first = moved(g, target, Size::Long);
-    put(g, next, codes, first, no_write(), place, Size::Long, v)
+    let to = destination(g, mem, plus(at, 2), op, Size::Long);
+    put_to(g, move_codes(Size::Long, v, sr), to, Size::Long, v)
 }
 
 pub(crate) fn unassigned(g: &[u32; 16], at: u32, sr: u16, mem: &[u8], op: u32) -> Change

@@ -1,15 +1,12 @@
 // Line 0: bit operations and immediates.
-use super::bits::bit_of;
 use super::bits::changed_bit;
 use address::changes::done;
 use address::changes::illegal;
-use address::changes::put;
+use address::changes::put_to;
 use address::changes::refused;
+use address::operands::destination;
 use address::operands::extension;
 use address::operands::fetch;
-use address::operands::locate;
-use address::operands::moved;
-use address::operands::operand;
 use address::operands::value;
 use manual::Change;
 use manual::Fault;
@@ -18,6 +15,7 @@ use manual::Logic;
 use manual::Operand;
 use manual::Size;
 use memory::load;
+use word::bits::bit_of;
 use word::bits::logic;
 use word::bits::reversed_bits;
 use word::bits::reversed_bytes;
@@ -124,36 +122,28 @@ pub fn bit_of_data(g: &[u32; 16], pc: u32, sr: u16, op: u32, n: u32) -> Change
     ensures { λ e. ⌜ e ≡ bitOfData (now (g .entry)) pc sr op n ⌝ }
 {
     let v = data(g, op);
-    let was = bit_of(n % 32, v);
+    let was = bit_of(n, v);
     let codes = test_codes(sr, !was);
     let none = no_write();
-    done(
-        pc,
-        codes,
-        none,
-        write_data(op, changed_bit(op / 64, n % 32, v)),
-    )
+    done(pc, codes, none, write_data(op, changed_bit(op / 64, n, v)))
 }
 
 fn bit_of_byte(g: &[u32; 16], pc: u32, sr: u16, mem: &[u8], op: u32, n: u32) -> Change
     ensures { λ e. ⌜ e ≡ bitOfByte (now (g .entry)) pc sr (mapped (now (mem .entry))) op n ⌝ }
 {
-    let target = operand(op / 8 % 8, op % 8);
-    let place = locate(g, mem, pc, target, Size::Byte);
-    let next = plus(pc, extension(target, Size::Byte));
+    let to = destination(g, mem, pc, op, Size::Byte);
+    let place = to.place;
     let v = match fetch(g, mem, place, Size::Byte) {
         Got::Value(v) => v,
         Got::Fault(x) => return refused(x),
     };
     let was = bit_of(n % 8, v);
     let codes = test_codes(sr, !was);
-    let first = moved(g, target, Size::Byte);
-    let none = no_write();
     if op / 64 % 4 == 0 {
-        done(next, codes, first, none)
+        done(to.next, codes, to.moved, no_write())
     } else {
         let changed = changed_bit(op / 64, n % 8, v);
-        put(g, next, codes, first, none, place, Size::Byte, changed)
+        put_to(g, codes, to, Size::Byte, changed)
     }
 }
 

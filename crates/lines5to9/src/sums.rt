@@ -1,13 +1,10 @@
 // Sums and differences: ADD, ADDA, ADDX, SUB, SUBA, SUBX, and what ADDQ and SUBQ do to a place.
 use address::changes::done;
 use address::changes::illegal;
-use address::changes::put;
+use address::changes::put_to;
 use address::changes::refused;
-use address::operands::extension;
+use address::operands::destination;
 use address::operands::fetch;
-use address::operands::locate;
-use address::operands::moved;
-use address::operands::operand;
 use address::operands::source;
 use manual::Change;
 use manual::Fault;
@@ -60,18 +57,15 @@ pub fn to_data(add: bool, g: &[u32; 16], at: u32, mem: &[u8], op: u32) -> Change
 pub fn to_place(add: bool, z: Size, g: &[u32; 16], at: u32, mem: &[u8], op: u32, n: u32) -> Change
     ensures { λ e. ⌜ e ≡ toPlace add z (now (g .entry)) at (mapped (now (mem .entry))) op n ⌝ }
 {
-    let target = operand(op / 8 % 8, op % 8);
-    let pc = plus(at, 2);
-    let place = locate(g, mem, pc, target, z);
+    let to = destination(g, mem, plus(at, 2), op, z);
+    let place = to.place;
     let v = match fetch(g, mem, place, z) {
         Got::Value(v) => v,
         Got::Fault(x) => return refused(x),
     };
     let r = sum_or_difference(add, z, n, v, false);
-    let next = plus(pc, extension(target, z));
     let codes = sum_codes(r);
-    let first = moved(g, target, z);
-    put(g, next, codes, first, no_write(), place, z, r.value)
+    put_to(g, codes, to, z, r.value)
 }
 
 pub fn to_memory(add: bool, g: &[u32; 16], at: u32, mem: &[u8], op: u32) -> Change

@@ -1,12 +1,9 @@
 // Line B: CMP, CMPA and EOR.
 use address::changes::done;
-use address::changes::put;
+use address::changes::put_to;
 use address::changes::refused;
-use address::operands::extension;
+use address::operands::destination;
 use address::operands::fetch;
-use address::operands::locate;
-use address::operands::moved;
-use address::operands::operand;
 use address::operands::source;
 use manual::Change;
 use manual::Fault;
@@ -74,18 +71,14 @@ pub(crate) fn logic_to_place(
     ensures { λ e. ⌜ e ≡ logicToPlace l (now (g .entry)) at sr (mapped (now (mem .entry))) op ⌝ }
 {
     let z = size_of(op / 64);
-    let target = operand(op / 8 % 8, op % 8);
-    let pc = plus(at, 2);
-    let place = locate(g, mem, pc, target, z);
+    let to = destination(g, mem, plus(at, 2), op, z);
+    let place = to.place;
     let v = match fetch(g, mem, place, z) {
         Got::Value(v) => v,
         Got::Fault(x) => return refused(x),
     };
     let r = logic(l, v, data(g, op / 512));
-    let next = plus(pc, extension(target, z));
-    let codes = move_codes(z, r, sr);
-    let first = moved(g, target, z);
-    put(g, next, codes, first, no_write(), place, z, r)
+    put_to(g, move_codes(z, r, sr), to, z, r)
 }
 
 // What a word of line B changes, taken for the instruction of a row.

@@ -5,9 +5,8 @@ use address::changes::jump;
 use address::changes::privilege;
 use address::changes::refused;
 use address::operands::control;
+use address::operands::destination;
 use address::operands::extension;
-use address::operands::locate;
-use address::operands::moved;
 use address::operands::operand;
 use manual::Change;
 use manual::Fault;
@@ -51,13 +50,11 @@ fn cache_line(at: u32, sr: u16) -> Change
 fn wddata(g: &[u32; 16], at: u32, sr: u16, mem: &[u8], op: u32) -> Change
     ensures { λ e. ⌜ e ≡ writeDebugData (now (g .entry)) at sr (mapped (now (mem .entry))) op ⌝ }
 {
-    let z = size_of(op / 64);
-    let target = operand(op / 8 % 8, op % 8);
-    let pc = plus(at, 2);
-    let place = locate(g, mem, pc, target, z);
-    let next = plus(pc, extension(target, z));
+    let to = destination(g, mem, plus(at, 2), op, size_of(op / 64));
+    let place = to.place;
+    let next = to.next;
+    let first = to.moved;
     let codes = kept_codes(sr);
-    let first = moved(g, target, z);
     let none = no_write();
     match place {
         Place::D(_) => done(next, codes, first, none),

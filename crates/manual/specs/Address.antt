@@ -5,6 +5,7 @@ use mathlib.Core.List.{List, [], _∷_}
 use lib.ListN.{getD}
 use lib.Dec.{eqb}
 use Rattle.manual.specs.declared.Source.{Source}
+use Rattle.manual.specs.declared.Destination.{Destination}
 use Rattle.manual.specs.declared.Size.{Size}
 use Rattle.manual.specs.declared.Size.the-variants.{Byte, Word, Long}
 use Rattle.manual.specs.declared.Got.{Got}
@@ -147,3 +148,9 @@ unfoldable pub source : List ℕ → Memory → ℕ → ℕ → Size → Source
 source g m pc op z =
     let o : Operand = operand (op / 8 % 8) (op % 8) in
     record { got = value g m pc o z; next = plus pc (extension o z); moved = moved g o z }
+
+-- where the operand that a word's bits 5 to 0 name is written
+unfoldable pub destination : List ℕ → Memory → ℕ → ℕ → Size → Destination
+destination g m pc op z =
+    let o : Operand = operand (op / 8 % 8) (op % 8) in
+    record { place = locate g m pc o z; next = plus pc (extension o z); moved = moved g o z }

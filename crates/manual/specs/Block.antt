@@ -30,7 +30,27 @@ fresh =
       stopped = false;
     }
 
--- ---- where each part lies: D0 to D7 and A0 to A7 from 5 on, a long each, and the accumulators from 95 on, eight bytes each
+-- ---- where each part lies
+
+-- the version, and how many bytes follow these five
+abbrev pub versionAt : ℕ
+versionAt = 0
+
+abbrev pub lengthAt : ℕ
+lengthAt = 1
+
+abbrev pub headBytes : ℕ
+headBytes = 5
+
+abbrev pub blockBytes : ℕ
+blockBytes = 128
+
+abbrev pub blockRest : ℕ
+blockRest = 123
+
+-- D0 to D7 and A0 to A7, a long each
+abbrev pub registersAt : ℕ
+registersAt = 5
 
 abbrev pub pcAt : ℕ
 pcAt = 69
@@ -53,6 +73,7 @@ macsrAt = 87
 abbrev pub maskAt : ℕ
 maskAt = 91
 
+-- the accumulators, eight bytes each
 abbrev pub accAt : ℕ → ℕ
 accAt i = 95 + i * 8
 
@@ -82,7 +103,7 @@ emacAt b =
 unfoldable pub stateAt : List ℕ → Cpu
 stateAt b =
     record {
-      r = longsAt b 16 5;
+      r = longsAt b 16 registersAt;
       pc = valueAt b pcAt 4;
       sr = valueAt b srAt 2;
       other = valueAt b otherAt 4;
@@ -111,9 +132,9 @@ notRead n = record { reply = n; cpu = fresh }
 
 unfoldable pub readBlock : List ℕ → Answer
 readBlock b =
-    cond (ltb (length b) 5) (notRead WrongLength)
-    (cond (eqb (valueAt b 0 1) 1)
-    (cond (eqb (length b) 128 && eqb (valueAt b 1 4) 123)
+    cond (ltb (length b) headBytes) (notRead WrongLength)
+    (cond (eqb (valueAt b versionAt 1) 1)
+    (cond (eqb (length b) blockBytes && eqb (valueAt b lengthAt 4) blockRest)
     (cond (saysAdmitted b) (record { reply = Done; cpu = stateAt b }) (notRead NotAdmitted))
     (notRead WrongLength))
     (notRead WrongVersion))
@@ -122,7 +143,7 @@ readBlock b =
 
 -- the version and the length, and nothing else yet
 unfoldable pub headed : List ℕ
-headed = storeAt (storeAt (replicate 128 0) 0 1 1) 1 4 123
+headed = storeAt (storeAt (replicate blockBytes 0) versionAt 1 1) lengthAt 4 blockRest
 
 -- longs one after the other from a on
 unfoldable pub withLongs : List ℕ → ℕ → ℕ → ℕ → List ℕ → List ℕ
@@ -145,7 +166,7 @@ withUnit e b = withAccs e (storeAt (storeAt b macsrAt 4 (e .macsr)) maskAt 4 (e 
 -- the block of a state
 unfoldable pub blockOf : Cpu → List ℕ
 blockOf s =
-    storeAt (withUnit (s .emac) (withControls s (withLongs (s .r) 0 16 5 headed))) stoppedAt 1 (bit (s .stopped))
+    storeAt (withUnit (s .emac) (withControls s (withLongs (s .r) 0 16 registersAt headed))) stoppedAt 1 (bit (s .stopped))
 
 -- the reply to a store, and the buffer after it: it needs exactly 128 bytes, whose old contents do not matter
 pub record Stored : Type 0 where
@@ -157,6 +178,6 @@ stored n b = record { reply = n; bytes = b }
 
 unfoldable pub storeBlock : Cpu → List ℕ → Stored
 storeBlock s b =
-    cond (eqb (length b) 128)
+    cond (eqb (length b) blockBytes)
     (cond (admitted s) (stored Done (blockOf s)) (stored NotAdmitted b))
     (stored WrongLength b)

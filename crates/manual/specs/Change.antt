@@ -10,6 +10,7 @@ use Rattle.manual.specs.declared.Place.the-variants.{D, A, M, I, Fault a
 use Rattle.manual.specs.declared.Reached.{Reached}
 use Rattle.manual.specs.declared.Reached.the-variants.{At, NoAddress}
 use Rattle.manual.specs.declared.Write.{Write}
+use Rattle.manual.specs.declared.Destination.{Destination}
 use Rattle.manual.specs.declared.Reply.{Reply}
 use Rattle.manual.specs.declared.Reply.the-variants.{NotCarried}
 use Rattle.manual.specs.declared.Action.{Action}
@@ -95,3 +96,7 @@ put g next codes one two (A r) z v = storeToAddress next codes one r v
 put g next codes one two (M a) z v = store next codes one two a z v
 put g next codes one two (I i) z v = storeToImmediate next codes one two
 put g next codes one two (NoPlace x) z v = refused x
+
+-- a value of a size goes to the operand that a word names, whose register moves
+unfoldable pub putTo : List ℕ → ℕ → Destination → Size → ℕ → Change
+putTo g codes to z v = put g (to .next) codes (to .moved) noWrite (to .place) z v

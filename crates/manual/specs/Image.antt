@@ -12,34 +12,54 @@ use Rattle.manual.specs.Registers.{withAddress, withPc, withSr}
 use Rattle.manual.specs.Memory.{Storage, valueAt}
 use Rattle.manual.specs.Admitted.{admitted}
 use Rattle.manual.specs.Reply.{numberOf, isDone}
-use Rattle.manual.specs.Block.{fresh}
+use Rattle.manual.specs.Block.{fresh, versionAt, lengthAt, headBytes}
 
 -- ---- the file
 
 abbrev pub imageMemory : ℕ
 imageMemory = 49152
 
+-- where each part lies after the version and the length
+abbrev pub startAt : ℕ
+startAt = 5
+
+abbrev pub stackAt : ℕ
+stackAt = 9
+
+abbrev pub statusAt : ℕ
+statusAt = 13
+
+abbrev pub budgetAt : ℕ
+budgetAt = 15
+
+abbrev pub programAt : ℕ
+programAt = 19
+
+-- what the length counts of them
+abbrev pub imageHead : ℕ
+imageHead = 14
+
 -- the state that a file says
 unfoldable pub imageState : List ℕ → Cpu
-imageState f = withSr (valueAt f 13 2) (withPc (valueAt f 5 4) (withAddress 7 (valueAt f 9 4) fresh))
+imageState f = withSr (valueAt f statusAt 2) (withPc (valueAt f startAt 4) (withAddress 7 (valueAt f stackAt 4) fresh))
 
 -- the reply to a file: 9 under five bytes, 8, 9 where the length is none or does not match, 2
 unfoldable pub imageReply : List ℕ → Reply
 imageReply f =
-    let l : ℕ = valueAt f 1 4 in
-    cond (ltb (length f) 5) WrongLength
-    (cond (eqb (valueAt f 0 1) 1)
-    (cond (leb 14 l && (leb l (imageMemory + 14) && eqb (length f) (5 + l)))
+    let l : ℕ = valueAt f lengthAt 4 in
+    cond (ltb (length f) headBytes) WrongLength
+    (cond (eqb (valueAt f versionAt 1) 1)
+    (cond (leb imageHead l && (leb l (imageMemory + imageHead) && eqb (length f) (headBytes + l)))
     (cond (admitted (imageState f)) Done NotAdmitted)
     WrongLength)
     WrongVersion)
 
 abbrev pub imageBudget : List ℕ → ℕ
-imageBudget f = valueAt f 15 4
+imageBudget f = valueAt f budgetAt 4
 
 -- the file's bytes at address 0, and zeros up to 49,152
 unfoldable pub imageBytes : List ℕ → Storage
-imageBytes f = drop 19 f ++ replicate (imageMemory - (length f - 19)) 0
+imageBytes f = drop programAt f ++ replicate (imageMemory - (length f - programAt)) 0
 
 -- what a read of a file gives: the reply, the budget, the state, and storage after it
 pub record Image : Type 0 where

@@ -1,4 +1,5 @@
 // The machine's data: what the definition in specs/ speaks of, and what the crates above pass around.
+pub mod block;
 
 // The size of an operand.
 pub enum Size {
@@ -90,6 +91,13 @@ pub struct Write {
 // What an operand reads: the value, the address after its extension words, and its register's move.
 pub struct Source {
     pub got: Got,
+    pub next: u32,
+    pub moved: Write,
+}
+
+// Where an operand is written: its place, the address after its extension words, and its register's move.
+pub struct Destination {
+    pub place: Place,
     pub next: u32,
     pub moved: Write,
 }

@@ -1,7 +1,9 @@
-// AND, OR, EOR, and the order of bits and bytes.
+// AND, OR, EOR, single bits, and the order of bits and bytes.
+use super::flags::bit;
 use manual::Logic;
 ghost use mathlib.Core.Path.{_≡_};
-ghost use Rattle.manual.specs.Bits.{logic as logicOf, reversedBits, reversedBytes};
+ghost use Prim.Native.Nat.{_%_};
+ghost use Rattle.manual.specs.Bits.{logic as logicOf, bitOf, withBit, reversedBits, reversedBytes};
 
 pub fn logic(l: Logic, a: u32, b: u32) -> u32
     ensures { λ r. ⌜ r ≡ logicOf l a b ⌝ }
@@ -11,6 +13,23 @@ pub fn logic(l: Logic, a: u32, b: u32) -> u32
         Logic::Or => a | b,
         Logic::Eor => a ^ b,
     }
+}
+
+// Bit n modulo 32.
+pub fn bit_of(n: u32, v: u32) -> bool
+    ensures { λ r. ⌜ r ≡ bitOf (n % 32) v ⌝ }
+{
+    (v >> (n % 32)) % 2 == 1
+}
+
+// A long with bit n modulo 32 as told.
+pub fn with_bit(n: u32, b: bool, v: u32) -> u32
+    ensures { λ r. ⌜ r ≡ withBit (n % 32) b v ⌝ }
+{
+    let i = n % 32;
+    let old = bit(bit_of(n, v)) << i;
+    let new = bit(b) << i;
+    v - old + new
 }
 
 // The lowest bit of the rest goes to the highest place that is left.

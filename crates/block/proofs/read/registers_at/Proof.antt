@@ -3,14 +3,14 @@ use Prim.Native.Nat.{_+_, _*_, _-_, _≤_}
 use mathlib.Core.Path.{_≡_, refl}
 use mathlib.Core.List.{_++_}
 use lib.ListN.{length, take, length-set}
-use Rattle.manual.specs.Block.{longsAt}
+use Rattle.manual.specs.Block.{registersAt, longsAt}
 use Rattle.block.proofs.ReadLoops.{longs-on, longs-all}
 use borrow.Author.Needs.{needs}
 use Rattle.block.proofs.read.registers_at.Statement.{statement}
 use Rattle.block.proofs.read.registers_at.Tie as tie
 
 abbrev Inv-loop : tie.InvT-loop
-Inv-loop bytes g₀ i₀ g i = (i ≤ 16) × (length g ≡ 16) × (take i g ++ longsAt bytes (16 - i) (5 + i * 4) ≡ longsAt bytes 16 5)
+Inv-loop bytes g₀ i₀ g i = (i ≤ 16) × (length g ≡ 16) × (take i g ++ longsAt bytes (16 - i) (registersAt + i * 4) ≡ longsAt bytes 16 registersAt)
 
 abbrev μ-loop : tie.MeasureT-loop
 μ-loop bytes g₀ i₀ g i = 16 - i

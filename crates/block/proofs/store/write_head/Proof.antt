@@ -2,16 +2,17 @@
 use Prim.Native.Nat.{_-_, _≤_}
 use mathlib.Core.Path.{_≡_, refl}
 use lib.ListN.{length, take, replicate, length-set}
+use Rattle.manual.specs.Block.{blockBytes}
 use Rattle.block.proofs.StoreLoops.{cleared-on, headed-is}
 use borrow.Author.Needs.{needs}
 use Rattle.block.proofs.store.write_head.Statement.{statement}
 use Rattle.block.proofs.store.write_head.Tie as tie
 
 abbrev Inv-loop : tie.InvT-loop
-Inv-loop bytes₀ i₀ bytes i = (i ≤ 128) × (length bytes ≡ 128) × (take i bytes ≡ replicate i 0)
+Inv-loop bytes₀ i₀ bytes i = (i ≤ blockBytes) × (length bytes ≡ blockBytes) × (take i bytes ≡ replicate i 0)
 
 abbrev μ-loop : tie.MeasureT-loop
-μ-loop bytes₀ i₀ bytes i = 128 - i
+μ-loop bytes₀ i₀ bytes i = blockBytes - i
 
 loop-again : tie.Need-loop-again Inv-loop μ-loop
 loop-again c =

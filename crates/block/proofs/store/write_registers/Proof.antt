@@ -2,7 +2,7 @@
 use Prim.Native.Nat.{_+_, _*_, _-_, _≤_}
 use mathlib.Core.Path.{_≡_, refl}
 use lib.ListN.{length}
-use Rattle.manual.specs.Block.{withLongs}
+use Rattle.manual.specs.Block.{blockBytes, registersAt, withLongs}
 use Rattle.block.proofs.StoreLoops.{stores-on, stores-all}
 use borrow.Author.Needs.{needs}
 use Rattle.block.proofs.store.write_registers.Statement.{statement}
@@ -10,7 +10,7 @@ use Rattle.block.proofs.store.write_registers.Tie as tie
 
 abbrev Inv-loop : tie.InvT-loop
 Inv-loop bytes₀ g i₀ bytes i =
-    (i ≤ 16) × (length bytes ≡ 128) × (withLongs g i (16 - i) (5 + i * 4) bytes ≡ withLongs g 0 16 5 bytes₀)
+    (i ≤ 16) × (length bytes ≡ blockBytes) × (withLongs g i (16 - i) (registersAt + i * 4) bytes ≡ withLongs g 0 16 registersAt bytes₀)
 
 abbrev μ-loop : tie.MeasureT-loop
 μ-loop bytes₀ g i₀ bytes i = 16 - i

@@ -5,16 +5,17 @@ use native.Mathlib.Omega.{arith}
 use borrow.Author.Needs.{needs}
 use denote.Ref.{now}
 use lib.ListN.{length, getD, length-set}
+use Rattle.manual.specs.Image.{imageMemory, programAt}
 use Rattle.image.proofs.FileLaws.{filled-next, all-filled}
 use Rattle.image.proofs.file.fill.Statement.{statement}
 use Rattle.image.proofs.file.fill.Tie as tie
 
 abbrev Inv-loop : tie.InvT-loop
 Inv-loop file mem₀ at₀ mem at =
-    (at ≤ 49152) × (length mem ≡ 49152) × ((k : ℕ) → k < at → getD mem k 0 ≡ getD file (19 + k) 0)
+    (at ≤ imageMemory) × (length mem ≡ imageMemory) × ((k : ℕ) → k < at → getD mem k 0 ≡ getD file (programAt + k) 0)
 
 abbrev μ-loop : tie.MeasureT-loop
-μ-loop file mem₀ at₀ mem at = 49152 - at
+μ-loop file mem₀ at₀ mem at = imageMemory - at
 
 loop-again : tie.Need-loop-again Inv-loop μ-loop
 loop-again c = (

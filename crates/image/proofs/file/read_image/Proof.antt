@@ -1,15 +1,15 @@
 -- `image::file::read_image` meets its contract: a file that is accepted has its bytes, and memory has room for them. Assumes nothing.
-use Prim.Native.Nat.{_≤_}
+use Prim.Native.Nat.{_+_, _≤_}
 use borrow.Author.Needs.{needs}
 use borrow.Author.Tests.{not-true, not-false, eq-eqb, ne-eqb}
 use denote.Ref.{now}
 use lib.ListN.{length}
-use Rattle.manual.specs.Image.{loadImage}
+use Rattle.manual.specs.Image.{imageMemory, programAt, loadImage}
 use Rattle.image.proofs.FileLaws.{accepted}
 use Rattle.image.proofs.file.read_image.Statement.{statement}
 use Rattle.image.proofs.file.read_image.Tie as tie
 
-taken : (c : tie.Else2) → let f = now (c .before .before .before .before .before .before .args .file) in (19 ≤ length f) × (length f ≤ 49171)
+taken : (c : tie.Else2) → let f = now (c .before .before .before .before .before .before .args .file) in (programAt ≤ length f) × (length f ≤ programAt + imageMemory)
 taken c =
     accepted (now (c .before .before .before .before .before .before .args .file))
     (rw (← c .before .before .image-reply .ensures, ← c .before .is-done .ensures) (not-false (c .before .is-done .result) (c .if2 .left)))

@@ -16,6 +16,7 @@ status-at-spec =
     (λ c. omega (arith, c .shared-slice-known .given 13))
     (λ c. omega (arith, c .shared-slice-known .given 13))
     (λ c. search needs)
+    (λ c. search needs)
     (λ c. omega (arith, c .shared-slice-known2 .given 14))
     (λ c. omega (arith, c .shared-slice-known2 .given 13, c .shared-slice-known2 .given 14))
     returns)

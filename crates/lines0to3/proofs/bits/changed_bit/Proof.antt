@@ -10,7 +10,7 @@ use Rattle.lines0to3.proofs.bits.changed_bit.Tie as tie
 
 returns : tie.Need-returns
 unfolding changedBit
-returns c = rw (c .match .keys1) (with-same (c .before .args .n) (c .before .args .v))
+returns c = rw (c .match .keys1) (with-same (c .before .args .n % 32) (c .before .args .v))
 
 returns-2 : tie.Need-returns-2
 unfolding changedBit

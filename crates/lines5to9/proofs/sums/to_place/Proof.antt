@@ -6,14 +6,14 @@ use Rattle.lines5to9.proofs.sums.to_place.Tie as tie
 returns : tie.Need-returns
 unfolding toPlaceOf
 returns c =
-    let c1 = c .before in let c2 = c1 .before in let c3 = c2 .before in let c4 = c3 .before in let c5 = c4 .before in let c6 = c5 .before in let c7 = c6 .before in
-    rw (← c7 .operand .ensures, ← c6 .plus .ensures, ← c5 .locate .ensures, ← c4 .fetch .ensures, c2 .x .given .1, ← c .refused .ensures)
+    let c1 = c .before in let c2 = c1 .before in let c3 = c2 .before in let c4 = c3 .before in let c5 = c4 .before in let c6 = c5 .before in
+    rw (← c6 .plus .ensures, ← c5 .destination .ensures, ← c4 .fetch .ensures, c2 .x .given .1, ← c .refused .ensures)
 
 returns-2 : tie.Need-returns-2
 unfolding toPlaceOf
 returns-2 c =
-    let c1 = c .before in let c2 = c1 .before in let c3 = c2 .before in let c4 = c3 .before in let c5 = c4 .before in let c6 = c5 .before in let c7 = c6 .before in let c8 = c7 .before in let c9 = c8 .before in let c10 = c9 .before in let c11 = c10 .before in let c12 = c11 .before in let c13 = c12 .before in
-    rw (← c13 .operand .ensures, ← c12 .plus .ensures, ← c11 .locate .ensures, ← c10 .fetch .ensures, c8 .v .given .1, ← c6 .sum-or-difference .ensures, ← c5 .extension .ensures, ← c4 .plus2 .ensures, ← c3 .sum-codes .ensures, ← c2 .moved .ensures, ← c1 .no-write .ensures, ← c .put .ensures)
+    let c1 = c .before in let c2 = c1 .before in let c3 = c2 .before in let c4 = c3 .before in let c5 = c4 .before in let c6 = c5 .before in let c7 = c6 .before in let c8 = c7 .before in
+    rw (← c8 .plus .ensures, ← c7 .destination .ensures, ← c6 .fetch .ensures, c4 .v .given .1, ← c2 .sum-or-difference .ensures, ← c1 .sum-codes .ensures, ← c .put-to .ensures)
 
 pub to-place-spec : {M : Type 1} → statement M
 to-place-spec =
@@ -22,15 +22,10 @@ to-place-spec =
     (λ c κs. tt)
     (λ c κs. tt)
     (λ c κs. tt)
-    (λ c κs. tt)
     (λ c. search needs)
     (λ c. search needs)
     (λ c κs. tt)
     returns
-    (λ c κs. tt)
-    (λ c κs. tt)
-    (λ c κs. tt)
-    (λ c κs. tt)
     (λ c κs. tt)
     (λ c κs. tt)
     (λ c κs. tt)

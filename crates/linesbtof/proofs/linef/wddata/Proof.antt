@@ -6,41 +6,37 @@ use Rattle.linesbtof.proofs.linef.wddata.Tie as tie
 returns : tie.Need-returns
 unfolding writeDebugDataOf
 returns c =
-    let c1 = c .before in let c2 = c1 .before in let c3 = c2 .before in let c4 = c3 .before in let c5 = c4 .before in let c6 = c5 .before in let c7 = c6 .before in let c8 = c7 .before in let c9 = c8 .before in let c10 = c9 .before in let c11 = c10 .before in
-    rw (← c11 .size-of .ensures, ← c10 .operand .ensures, ← c9 .plus .ensures, ← c8 .locate .ensures, ← c7 .extension .ensures, ← c6 .plus2 .ensures, ← c5 .kept-codes .ensures, ← c4 .moved .ensures, ← c3 .no-write .ensures, c1 .enum-told .given .1, ← c .done .ensures)
+    let c1 = c .before in let c2 = c1 .before in let c3 = c2 .before in let c4 = c3 .before in let c5 = c4 .before in let c6 = c5 .before in let c7 = c6 .before in let c8 = c7 .before in
+    rw (← c8 .plus .ensures, ← c7 .size-of .ensures, ← c6 .destination .ensures, ← c4 .kept-codes .ensures, ← c3 .no-write .ensures, c1 .enum-told .given .1, ← c .done .ensures)
 
 returns-2 : tie.Need-returns-2
 unfolding writeDebugDataOf
 returns-2 c =
-    let c1 = c .before in let c2 = c1 .before in let c3 = c2 .before in let c4 = c3 .before in let c5 = c4 .before in let c6 = c5 .before in let c7 = c6 .before in let c8 = c7 .before in let c9 = c8 .before in let c10 = c9 .before in let c11 = c10 .before in
-    rw (← c11 .size-of .ensures, ← c10 .operand .ensures, ← c9 .plus .ensures, ← c8 .locate .ensures, ← c7 .extension .ensures, ← c6 .plus2 .ensures, ← c5 .kept-codes .ensures, ← c4 .moved .ensures, ← c3 .no-write .ensures, c1 .enum-told2 .given .1, ← c .done2 .ensures)
+    let c1 = c .before in let c2 = c1 .before in let c3 = c2 .before in let c4 = c3 .before in let c5 = c4 .before in let c6 = c5 .before in let c7 = c6 .before in let c8 = c7 .before in
+    rw (← c8 .plus .ensures, ← c7 .size-of .ensures, ← c6 .destination .ensures, ← c4 .kept-codes .ensures, ← c3 .no-write .ensures, c1 .enum-told2 .given .1, ← c .done2 .ensures)
 
 returns-3 : tie.Need-returns-3
 unfolding writeDebugDataOf
 returns-3 c =
-    let c1 = c .before in let c2 = c1 .before in let c3 = c2 .before in let c4 = c3 .before in let c5 = c4 .before in let c6 = c5 .before in let c7 = c6 .before in let c8 = c7 .before in let c9 = c8 .before in let c10 = c9 .before in let c11 = c10 .before in
-    rw (← c11 .size-of .ensures, ← c10 .operand .ensures, ← c9 .plus .ensures, ← c8 .locate .ensures, ← c7 .extension .ensures, ← c6 .plus2 .ensures, ← c5 .kept-codes .ensures, ← c4 .moved .ensures, ← c3 .no-write .ensures, c1 .enum-told3 .given .1, ← c .done3 .ensures)
+    let c1 = c .before in let c2 = c1 .before in let c3 = c2 .before in let c4 = c3 .before in let c5 = c4 .before in let c6 = c5 .before in let c7 = c6 .before in let c8 = c7 .before in
+    rw (← c8 .plus .ensures, ← c7 .size-of .ensures, ← c6 .destination .ensures, ← c4 .kept-codes .ensures, ← c3 .no-write .ensures, c1 .enum-told3 .given .1, ← c .done3 .ensures)
 
 returns-4 : tie.Need-returns-4
 unfolding writeDebugDataOf
 returns-4 c =
-    let c1 = c .before in let c2 = c1 .before in let c3 = c2 .before in let c4 = c3 .before in let c5 = c4 .before in let c6 = c5 .before in let c7 = c6 .before in let c8 = c7 .before in let c9 = c8 .before in let c10 = c9 .before in let c11 = c10 .before in
-    rw (← c11 .size-of .ensures, ← c10 .operand .ensures, ← c9 .plus .ensures, ← c8 .locate .ensures, ← c7 .extension .ensures, ← c6 .plus2 .ensures, ← c5 .kept-codes .ensures, ← c4 .moved .ensures, ← c3 .no-write .ensures, c1 .enum-told4 .given .1, ← c .done4 .ensures)
+    let c1 = c .before in let c2 = c1 .before in let c3 = c2 .before in let c4 = c3 .before in let c5 = c4 .before in let c6 = c5 .before in let c7 = c6 .before in let c8 = c7 .before in
+    rw (← c8 .plus .ensures, ← c7 .size-of .ensures, ← c6 .destination .ensures, ← c4 .kept-codes .ensures, ← c3 .no-write .ensures, c1 .enum-told4 .given .1, ← c .done4 .ensures)
 
 returns-5 : tie.Need-returns-5
 unfolding writeDebugDataOf
 returns-5 c =
-    let c1 = c .before in let c2 = c1 .before in let c3 = c2 .before in let c4 = c3 .before in let c5 = c4 .before in let c6 = c5 .before in let c7 = c6 .before in let c8 = c7 .before in let c9 = c8 .before in let c10 = c9 .before in let c11 = c10 .before in let c12 = c11 .before in
-    rw (← c12 .size-of .ensures, ← c11 .operand .ensures, ← c10 .plus .ensures, ← c9 .locate .ensures, ← c8 .extension .ensures, ← c7 .plus2 .ensures, ← c6 .kept-codes .ensures, ← c5 .moved .ensures, ← c4 .no-write .ensures, c2 .place .given .1, ← c .refused .ensures)
+    let c1 = c .before in let c2 = c1 .before in let c3 = c2 .before in let c4 = c3 .before in let c5 = c4 .before in let c6 = c5 .before in let c7 = c6 .before in let c8 = c7 .before in let c9 = c8 .before in
+    rw (← c9 .plus .ensures, ← c8 .size-of .ensures, ← c7 .destination .ensures, ← c5 .kept-codes .ensures, ← c4 .no-write .ensures, c2 .place .given .1, ← c .refused .ensures)
 
 pub wddata-spec : {M : Type 1} → statement M
 wddata-spec =
     tie.close
     (tie.spec
-    (λ c κs. tt)
-    (λ c κs. tt)
-    (λ c κs. tt)
-    (λ c κs. tt)
     (λ c κs. tt)
     (λ c κs. tt)
     (λ c κs. tt)

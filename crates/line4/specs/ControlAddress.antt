@@ -24,8 +24,8 @@ wayBy sr at next (At (Value a)) = To a next
 wayBy sr at next (At (NoValue x)) = Ends (refused x)
 wayBy sr at next NoAddress = Ends (illegal at sr)
 
-unfoldable pub aim : List ℕ → ℕ → ℕ → Memory → ℕ → Way
-aim g at sr m op =
+unfoldable pub controlAddress : List ℕ → ℕ → ℕ → Memory → ℕ → Way
+controlAddress g at sr m op =
     let pc : ℕ = plus at 2 in
     let target : Operand = operand (op / 8 % 8) (op % 8) in
     wayBy sr at (plus pc (extension target Long)) (control g m pc target)
@@ -43,25 +43,25 @@ by-way sr at next NoAddress f = refl
 pub goes : (g : List ℕ) (at sr : ℕ) (m : Memory) (op : ℕ) (f : ℕ → ℕ → Change) →
     reaching sr at (control g m (plus at 2) (operand (op / 8 % 8) (op % 8)))
     (λ a. f a (plus (plus at 2) (extension (operand (op / 8 % 8) (op % 8)) Long)))
-    ≡ along (aim g at sr m op) f
-unfolding aim
+    ≡ along (controlAddress g at sr m op) f
+unfolding controlAddress
 goes g at sr m op f =
     by-way sr at (plus (plus at 2) (extension (operand (op / 8 % 8) (op % 8)) Long))
     (control g m (plus at 2) (operand (op / 8 % 8) (op % 8))) f
 
 module _ (g : List ℕ) (at sr : ℕ) (m : Memory) (op : ℕ) where
-  pub lea-goes : lea g at sr m op ≡ along (aim g at sr m op) (λ a next. done next (keptCodes sr) noWrite (writeAddress (op / 512) a))
+  pub lea-goes : lea g at sr m op ≡ along (controlAddress g at sr m op) (λ a next. done next (keptCodes sr) noWrite (writeAddress (op / 512) a))
   unfolding lea
   lea-goes = goes g at sr m op (λ a next. done next (keptCodes sr) noWrite (writeAddress (op / 512) a))
 
-  pub pea-goes : pea g at sr m op ≡ along (aim g at sr m op) (λ a next. push g sr next a)
+  pub pea-goes : pea g at sr m op ≡ along (controlAddress g at sr m op) (λ a next. push g sr next a)
   unfolding pea
   pea-goes = goes g at sr m op (λ a next. push g sr next a)
 
-  pub jsr-goes : jsr g at sr m op ≡ along (aim g at sr m op) (push g sr)
+  pub jsr-goes : jsr g at sr m op ≡ along (controlAddress g at sr m op) (push g sr)
   unfolding jsr
   jsr-goes = goes g at sr m op (push g sr)
 
-  pub jmp-goes : jmp g at sr m op ≡ along (aim g at sr m op) (λ a next. jump sr a)
+  pub jmp-goes : jmp g at sr m op ≡ along (controlAddress g at sr m op) (λ a next. jump sr a)
   unfolding jmp
   jmp-goes = goes g at sr m op (λ a next. jump sr a)

@@ -1,8 +1,8 @@
 use mathlib.Core.Path.{refl}
 use Rattle.manual.specs.Bits.{bitOf}
 use borrow.Author.Needs.{needs}
-use Rattle.lines0to3.proofs.bits.bit_of.Statement.{statement}
-use Rattle.lines0to3.proofs.bits.bit_of.Tie as tie
+use Rattle.word.proofs.bits.bit_of.Statement.{statement}
+use Rattle.word.proofs.bits.bit_of.Tie as tie
 
 returns : tie.Need-returns
 unfolding bitOf
