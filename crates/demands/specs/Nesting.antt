@@ -181,11 +181,6 @@ unfolding Holds
 typed-of [] s l h = h .0
 typed-of (e ∷ es) s l h = h .0 .typed
 
-taken-of : (es : List Pending) (s : Cpu) (l : Lent) → Holds es s l → admitted s ≡ true
-unfolding Holds
-taken-of [] s l h = h .1
-taken-of (e ∷ es) s l h = h .0 .taken
-
 -- an entry in a handler takes A7 as its pointer
 no-swap : (s : Cpu) (level : Level) → supervisor (s .sr) ≡ true → swapsIn s level ≡ false
 no-swap s level h = rw (h, laws.handler-s level (s .sr)) (never (twoStacks s))

@@ -6,7 +6,7 @@ use mathlib.Core.List.{List, [], _∷_}
 use mathlib.Core.Logic.{_↔_, _⊎_, ⊎-elim, inl, inr}
 use native.Mathlib.Omega.{arith}
 use lib.Dec.{eqb, ltb, leb}
-use borrow.Author.Tests.{ltb-true, ltb-false, lt-ltb, le-ltb, leb-true, leb-false, le-leb, lt-leb, eqb-true, eqb-false, eq-eqb, ne-eqb}
+use borrow.Author.Tests.{ltb-true, ltb-false, lt-ltb, le-ltb, leb-true, le-leb, eqb-true, eqb-false, eq-eqb, ne-eqb}
 use Rattle.manual.specs.declared.Cpu.{Cpu}
 use Rattle.manual.specs.declared.Level.{Level}
 use Rattle.manual.specs.declared.Size.{Size}
@@ -17,7 +17,6 @@ use Rattle.manual.specs.declared.Access.{Access}
 use Rattle.manual.specs.declared.Access.the-variants.{Here, Not}
 use Rattle.manual.specs.declared.Stored.{Stored}
 use Rattle.manual.specs.declared.Stored.the-variants.{Done as Taken, Fault as NotTaken}
-use Rattle.manual.specs.declared.Reply.{Reply}
 use Rattle.manual.specs.declared.Action.{Action}
 use Rattle.manual.specs.declared.Action.the-variants.{Nothing, Store, StoreMany, LoadMany, Enter, Return, Status, Stop, PushStatus, Halt, Other, Accumulate, SetAcc, SetExt, SetMacsr, SetMask, CopyAcc, ClearAcc, Refuse}
 use Rattle.manual.specs.declared.Change.{Change}
@@ -60,9 +59,6 @@ iff-not-lt a b = (ltb-false a b, le-ltb a b)
 
 pub iff-le : (a b : ℕ) → (leb a b ≡ true) ↔ (a ≤ b)
 iff-le a b = (leb-true a b, le-leb a b)
-
-pub iff-not-le : (a b : ℕ) → (leb a b ≡ false) ↔ (b < a)
-iff-not-le a b = (leb-false a b, lt-leb a b)
 
 pub iff-eq : (a b : ℕ) → (eqb a b ≡ true) ↔ (a ≡ b)
 iff-eq a b = (eqb-true a b, eq-eqb a b)
@@ -117,10 +113,6 @@ module _ (l : List ℕ) where
 pub number-cond : (b : Bool) (x y : Outcome) → numbered (cond b x y) ≡ cond b (numbered x) (numbered y)
 number-cond true x y = refl
 number-cond false x y = refl
-
-pub number-same : (s : Cpu) (n : Reply) (m : Memory) → numbered (unchanged s n m) ≡ numberOf n
-unfolding refusal
-number-same s n m = refl
 
 -- the first refusals come before all else
 module _ (s : Cpu) (l : Lent) (o : Outcome) where

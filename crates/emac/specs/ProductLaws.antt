@@ -14,20 +14,12 @@ use Rattle.manual.specs.Emac.{fraction, signedProduct, unsignedProduct, product
 use Rattle.word.specs.SignedLaws.{signed-pos, signed-neg}
 use Rattle.word.specs.WordLaws.{cut-small}
 use Rattle.word.specs.RaisedLaws.{Up, higher, plus, up-neg, up-negative, out-half, signed-up}
-use Rattle.emac.specs.Products.{raised, raisedProduct, magnitude, IsFraction, IsNumber, IsScaled, IsScaledProduct}
+use Rattle.emac.specs.Products.{raised, raisedProduct, IsFraction, IsNumber, IsScaled, IsScaledProduct}
 use Rattle.emac.specs.declared.product.Raised.{Raised}
 use Rattle.emac.specs.BoolLaws.{by-bool, and-left, and-right}
 use Rattle.emac.specs.RoundLaws.{floor23, mod23, odd23, mod40, halved, round-up, round-down}
 
 -- ---- the numbers of two longs, by the signs; q is the product of the magnitudes
-
-pub magnitude-pos : (x : ℕ) → x < 2 ^ 31 → magnitude x ≡ x
-unfolding magnitude
-magnitude-pos x h = rw (lt-ltb x (2 ^ 31) h)
-
-pub magnitude-neg : (x : ℕ) → 2 ^ 31 ≤ x → magnitude x ≡ 2 ^ 32 - x
-unfolding magnitude
-magnitude-neg x h = rw (le-ltb x (2 ^ 31) h)
 
 pub times31 : (x y : ℕ) → x ≤ 2 ^ 31 → y ≤ 2 ^ 31 → x * y ≤ 2 ^ 62
 times31 x y h k = mul-le-mul h k

@@ -1,7 +1,7 @@
--- The laws of storing and reading back, each once over the size, of an access, and of the registers of a mask.
+-- The laws of storing and reading back, each once over the size, and of an access.
 -- Assumes nothing.
 use Prim.Native.Nat.{ℕ, zero, suc, _+_, _*_, _/_, _%_, _-_, _^_, _≤_, _<_}
-use mathlib.Core.Path.{_≡_, refl, sym, ap, _∙_}
+use mathlib.Core.Path.{_≡_, refl, sym, _∙_}
 use mathlib.Core.Bool.{Bool, true, false, cond}
 use mathlib.Core.List.{List}
 use mathlib.Core.Logic.{_⊎_, ⊎-elim, inl, inr}
@@ -9,20 +9,17 @@ use native.Mathlib.Omega.{arith}
 use native.Mathlib.Numerals.{sub-one}
 use native.Mathlib.Nat.{pow-succ', add-zero, add-assoc, div-div-eq-div-mul}
 use borrow.Author.Tests.{le-leb, lt-leb, leb-true}
-use lib.Dec.{leb, eqb}
 use lib.ListN.{length, getD, set, length-set}
 use lib.Seq.{getD-set-same, getD-set-other}
 use Rattle.manual.specs.declared.Size.{Size}
-use Rattle.manual.specs.declared.Size.the-variants.{Long}
 use Rattle.manual.specs.declared.Fault.{Fault}
 use Rattle.manual.specs.declared.Fault.the-variants.{Outside}
 use Rattle.manual.specs.declared.Access.{Access}
 use Rattle.manual.specs.declared.Access.the-variants.{Here, Not}
 use Rattle.manual.specs.declared.Stored.{Stored}
 use Rattle.manual.specs.declared.Stored.the-variants.{Fault as NotTaken}
-use Rattle.manual.specs.Word.{bytes, plus}
-use Rattle.manual.specs.Registers.{general}
-use Rattle.manual.specs.Memory.{Storage, Memory, inside, valueAt, storeAt, access, taken, storedIn, storing, stored, numberAt, accessMany, storedMany, loadedMany}
+use Rattle.manual.specs.Word.{bytes}
+use Rattle.manual.specs.Memory.{Storage, Memory, inside, valueAt, storeAt, access, taken, storedIn, storing, stored}
 
 -- ---- one number
 
@@ -136,10 +133,6 @@ here-inside m a n p x h is = by (inside m a n) (λ e. e) (sym h ∙ is)
     by true t e = let q : p ≡ a = cc in rw q (leb-true _ _ (t refl))
     by false t e = let z : _≡_ {A = ℕ} 0 1 = cc in absurd (omega arith)
 
-pub access-same : (m m′ : Storage) (a n : ℕ) → length m ≡ length m′ → access m a n ≡ access m′ a n
-unfolding access
-access-same m m′ a n e = rw e
-
 pub length-stored : (m : Memory) (a : ℕ) (z : Size) (v : ℕ) → length (stored m a z v) ≡ length m
 unfolding stored
 length-stored m a z v = by (access m a (bytes z))
@@ -156,32 +149,3 @@ not-stored m a z v r f is h = by (access m a (bytes z)) (sym h ∙ is)
     by : (x : Access) → NotTaken f ≡ taken x → storedIn m z v x ≡ m
     by (Here at) e = let q : _≡_ {A = ℕ} 0 1 = cc in absurd (omega arith)
     by (Not x) e = refl
-
--- ---- the registers of a mask
-
--- whether they are inside goes by the length alone
-pub many-same : (left : ℕ) (m m′ : Storage) (mask at : ℕ) → length m ≡ length m′ → accessMany left m mask at ≡ accessMany left m′ mask at
-unfolding accessMany
-many-same zero m m′ mask at e = refl
-many-same (suc left) m m′ mask at e =
-    rw (many-same left m m′ (mask / 2) (plus at 4) e, many-same left m m′ (mask / 2) at e, access-same m m′ at 4 e)
-
-either-length : (b : Bool) (x y : List ℕ) (k : ℕ) → length x ≡ k → length y ≡ k → length (cond b x y) ≡ k
-either-length true x y k p q = p
-either-length false x y k p q = q
-
-pub length-stored-many : (left : ℕ) (g : List ℕ) (n mask at : ℕ) (m : Memory) → length (storedMany left g n mask at m) ≡ length m
-unfolding storedMany
-length-stored-many zero g n mask at m = refl
-length-stored-many (suc left) g n mask at m =
-    either-length (eqb (mask % 2) 1) _ _ (length m)
-    (length-stored-many left g (n + 1) (mask / 2) (plus at 4) (stored m at Long (general g n)) ∙ length-stored m at Long (general g n))
-    (length-stored-many left g (n + 1) (mask / 2) at m)
-
-pub length-loaded-many : (left : ℕ) (m : Memory) (n mask at : ℕ) (g : List ℕ) → length (loadedMany left m n mask at g) ≡ length g
-unfolding loadedMany
-length-loaded-many zero m n mask at g = refl
-length-loaded-many (suc left) m n mask at g =
-    either-length (eqb (mask % 2) 1) _ _ (length g)
-    (length-loaded-many left m (n + 1) (mask / 2) (plus at 4) (set g n (numberAt m at Long)) ∙ simp length-set)
-    (length-loaded-many left m (n + 1) (mask / 2) at g)

@@ -70,24 +70,24 @@ module _ (c : Change) (sr macsr mask : ℕ) (g acc : List ℕ) (m : Memory) (g�
   abbrev Says : Attempt → Type 0
   Says r = whole r sr macsr mask g′ acc′ m′ ≡ agreedWhole r c sr macsr mask g acc m
 
-  together : (r : Attempt) → Attempted r → Says r
-  together (Done pc sr′) p = rw (p .1) (ap (fromPlace sr e) (p .0))
-  together (Sum pc macsr′) p = rw (p .1) (ap (fromUnit m) (p .0))
-  together Left p = rw (p .0, p .1, p .2)
+  as-said : (r : Attempt) → Attempted r → Says r
+  as-said (Done pc sr′) p = rw (p .1) (ap (fromPlace sr e) (p .0))
+  as-said (Sum pc macsr′) p = rw (p .1) (ap (fromUnit m) (p .0))
+  as-said Left p = rw (p .0, p .1, p .2)
 
   pub placed : (r : Effect) (pc sr′ : ℕ) → r ≡ InPlace pc sr′ → after r g′ m′ ≡ agreed r c sr g m → acc′ ≡ acc → Says (Done pc sr′)
-  placed r pc sr′ q h k = together (Done pc sr′) (rw q at h, k)
+  placed r pc sr′ q h k = as-said (Done pc sr′) (rw q at h, k)
 
   pub left-place : (r : Effect) → r ≡ NotInPlace → after r g′ m′ ≡ agreed r c sr g m → acc′ ≡ acc → Says Left
-  left-place r q h k = together Left (left-registers g m g′ m′ (rw q at h), k, left-memory g m g′ m′ (rw q at h))
+  left-place r q h k = as-said Left (left-registers g m g′ m′ (rw q at h), k, left-memory g m g′ m′ (rw q at h))
 
   pub summed : (r : Summed) (pc macsr′ : ℕ) → r ≡ InUnit pc macsr′ → afterMac r sr macsr mask acc′ g′ ≡ agreedMac r c sr e g → m′ ≡ m → Says (Sum pc macsr′)
-  summed r pc macsr′ q h k = together (Sum pc macsr′) (rw q at h, k)
+  summed r pc macsr′ q h k = as-said (Sum pc macsr′) (rw q at h, k)
 
   pub left-sum : (r : Summed) → r ≡ NotInUnit → afterMac r sr macsr mask acc′ g′ ≡ agreedMac r c sr e g → m′ ≡ m → Says Left
   left-sum r q h k =
       let h′ : undone sr g′ (emacOf macsr mask acc′) ≡ undone sr g e = rw q at h in
-      together Left (ap (λ (a : AfterMac). a .registers) h′, ap (λ (a : AfterMac). a .unit .acc) h′, k)
+      as-said Left (ap (λ (a : AfterMac). a .registers) h′, ap (λ (a : AfterMac). a .unit .acc) h′, k)
 
   in-place : (pc sr′ : ℕ) (f : Effect) (g1 : List ℕ) (m1 : Storage) → whole (Done pc sr′) sr macsr mask g′ acc′ m′ ≡ fromPlace sr e (after f g1 m1)
       → after (InPlace pc sr′) g′ m′ ≡ after f g1 m1

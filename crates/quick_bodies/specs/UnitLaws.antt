@@ -10,12 +10,11 @@ use Rattle.manual.specs.declared.Action.{Action}
 use Rattle.manual.specs.declared.Action.the-variants.{Nothing, Store, StoreMany, LoadMany, Enter, Return, Status, Stop, PushStatus, Halt, Other, Accumulate, SetAcc, SetExt, SetMacsr, SetMask, CopyAcc, ClearAcc, Refuse}
 use Rattle.manual.specs.declared.Change.{Change}
 use Rattle.manual.specs.Registers.{written, coded, applied, withParts, withEmac}
-use Rattle.manual.specs.Emac.{emacOf, accumulate}
+use Rattle.manual.specs.Emac.{accumulate}
 use Rattle.manual.specs.Reply.{Outcome, completed}
 use Rattle.manual.specs.Memory.{Memory}
 use Rattle.instructions.specs.Perform.{act, perform}
-use Rattle.quick_bodies.specs.declared.mac.Summed.the-variants.{Left}
-use Rattle.quick_bodies.specs.Units.{AfterMac, summed, undone, afterMac, actedOn, inUnit}
+use Rattle.quick_bodies.specs.Units.{AfterMac, summed, undone, actedOn, inUnit}
 
 module _ (g : List ℕ) (pc sr : ℕ) (e : Emac) (rest : Cpu) (m : Memory) (c : Change) (pc′ : ℕ) (e′ : Emac) (g′ : List ℕ) where
   abbrev state : Cpu
@@ -66,12 +65,3 @@ module _ (g : List ℕ) (pc sr : ℕ) (e : Emac) (rest : Cpu) (m : Memory) (c : 
   pub summed-performed : summed pc′ sr g′ e′ ≡ inUnit c sr e g → next ≡ perform state c m
   unfolding inUnit perform
   summed-performed h = by-action (c .action) h
-
--- the answer that is left has changed nothing
-pub left-registers : (sr macsr mask : ℕ) (g acc g′ acc′ : List ℕ)
-    → afterMac Left sr macsr mask acc′ g′ ≡ undone sr g (emacOf macsr mask acc) → g′ ≡ g
-left-registers sr macsr mask g acc g′ acc′ h = ap (λ (a : AfterMac). a .registers) h
-
-pub left-accumulators : (sr macsr mask : ℕ) (g acc g′ acc′ : List ℕ)
-    → afterMac Left sr macsr mask acc′ g′ ≡ undone sr g (emacOf macsr mask acc) → acc′ ≡ acc
-left-accumulators sr macsr mask g acc g′ acc′ h = ap (λ (a : AfterMac). a .unit .acc) h

@@ -15,7 +15,7 @@ use Rattle.manual.specs.Change.{reading}
 use Rattle.manual.specs.Emac.{emacOf, accumulate}
 use Rattle.instructions.specs.LineA.{highRegister, accumulating}
 use Rattle.quick_parts.specs.declared.Spot.{Spot}
-use Rattle.quick_parts.specs.declared.Spot.the-variants.{At, Far}
+use Rattle.quick_parts.specs.declared.Spot.the-variants.{At, NotNear}
 use Rattle.quick_bodies.specs.declared.mac.Summed.{Summed}
 use Rattle.quick_bodies.specs.declared.mac.Summed.the-variants.{Done, Left}
 use Rattle.quick_bodies.specs.declared.mac.Product.{Product}
@@ -97,7 +97,7 @@ loading g sr op w v next step =
       action = accumulating w (1 - op / 128 % 2 + w / 16 % 2 * 2) (general g (w / 0x1000)) (general g w);
     }
 
--- the change that loads from a spot. `Far` says nothing
+-- the change that loads from a spot. `NotNear` says nothing
 abbrev pub fromSpot : Spot → List ℕ → ℕ → Memory → ℕ → ℕ → Change → Change
 fromSpot (At a next step) g sr m op w c = reading (load m a Long) λ v. loading g sr op w v next step
-fromSpot Far g sr m op w c = c
+fromSpot NotNear g sr m op w c = c

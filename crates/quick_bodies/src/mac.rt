@@ -45,7 +45,7 @@ fn mac_registers(g: &[u32; 16], pc: u32, op: u32, w: u32) -> Product
     Product::Of(plus(pc, 4), i, w / 512 % 4, w / 256 % 2 == 1, x, y)
 }
 
-// Where the long is, and the move of its register from there. Far: modes 6 and 7, which are no MAC, and a displacement outside. One
+// Where the long is, and the move of its register from there. NotNear: modes 6 and 7, which are no MAC, and a displacement outside. One
 // match answers both for a masked address as for another, so that the mask costs its test alone.
 fn load_spot(g: &[u32; 16], pc: u32, mask: u32, mem: &[u8], op: u32, w: u32) -> Spot
     requires { ⌜ (w / 0x800 % 2 ≡ 0 → ⊥) ⌝ }
@@ -67,9 +67,9 @@ fn load_spot(g: &[u32; 16], pc: u32, mask: u32, mem: &[u8], op: u32, w: u32) -> 
                 let a = load_address(mask, w, plus(r, sign_extended(Size::Word, d)));
                 Spot::At(a, plus(pc, 6), no_write())
             }
-            Got::Fault(_) => Spot::Far,
+            Got::Fault(_) => Spot::NotNear,
         },
-        _ => Spot::Far,
+        _ => Spot::NotNear,
     }
 }
 

@@ -16,7 +16,7 @@ use Rattle.manual.specs.Address.{source, operand, value, fetch, locate, immedia
 use Rattle.word.specs.TestLaws.{by-lt}
 use Rattle.quick_parts.specs.Near.{Located, located, inMemory, spotted, readAs, Readable}
 use Rattle.quick_parts.specs.declared.Spot.{Spot}
-use Rattle.quick_parts.specs.declared.Spot.the-variants.{At, Far}
+use Rattle.quick_parts.specs.declared.Spot.the-variants.{At, NotNear}
 
 module _ (z : Size) (g : List ℕ) (m : Memory) (pc op : ℕ) where
   pub register : op / 8 % 8 < 2 → readAs (cut z (general g op)) (plus pc 0) noWrite ≡ source g m pc op z
@@ -36,7 +36,7 @@ module _ (z : Size) (g : List ℕ) (m : Memory) (pc op : ℕ) where
   pub spot-readable : (s : Spot) → spotted s (located g m pc (operand (op / 8 % 8) (op % 8)) z) ≡ located g m pc (operand (op / 8 % 8) (op % 8)) z
       → Readable g m pc op z s
   spot-readable (At a next w) h = λ v l k. loaded a next v w (sym h) k
-  spot-readable Far h = tt
+  spot-readable NotNear h = tt
 
   pub to-read : (s : Spot) (a next v : ℕ) (w : Write) → Readable g m pc op z s → s ≡ At a next w → v < 2 ^ 32 → load m a z ≡ Value v
       → readAs v next w ≡ source g m pc op z

@@ -1,4 +1,4 @@
--- What a spot says of an operand's place, and a reading of its source. `Far` says nothing. Assumes nothing.
+-- What a spot says of an operand's place, and a reading of its source. `NotNear` says nothing. Assumes nothing.
 use Prim.Native.Nat.{ℕ, _<_, _^_}
 use mathlib.Core.Path.{_≡_, sym, ap}
 use mathlib.Core.List.{List}
@@ -16,9 +16,9 @@ use Rattle.manual.specs.Address.{extension, locate, moved, source}
 use Rattle.manual.specs.Change.{put, store}
 use Rattle.manual.specs.declared.Change.{Change}
 use Rattle.quick_parts.specs.declared.Spot.{Spot}
-use Rattle.quick_parts.specs.declared.Spot.the-variants.{At, Far}
+use Rattle.quick_parts.specs.declared.Spot.the-variants.{At, NotNear}
 use Rattle.quick_parts.specs.declared.Reading.{Reading}
-use Rattle.quick_parts.specs.declared.Reading.the-variants.{Read, Far as Unread}
+use Rattle.quick_parts.specs.declared.Reading.the-variants.{Read, NotNear as Unread}
 
 -- where an operand is, its extension words being at pc
 pub record Located : Type 0 where
@@ -34,7 +34,7 @@ inMemory a next w = record { place = M a; next = next; step = w }
 
 abbrev pub spotted : Spot → Located → Located
 spotted (At a next w) l = inMemory a next w
-spotted Far l = l
+spotted NotNear l = l
 
 abbrev pub readAs : ℕ → ℕ → Write → Source
 readAs v next w = record { got = Value v; next = next; moved = w }
@@ -42,7 +42,7 @@ readAs v next w = record { got = Value v; next = next; moved = w }
 -- the number that is loaded at a spot is what the operand of a word reads
 abbrev pub Readable : List ℕ → Memory → ℕ → ℕ → Size → Spot → Type 0
 Readable g m pc op z (At a next w) = (v : ℕ) → v < 2 ^ 32 → load m a z ≡ Value v → readAs v next w ≡ source g m pc op z
-Readable g m pc op z Far = Unit {0}
+Readable g m pc op z NotNear = Unit {0}
 
 abbrev pub asRead : Reading → Source → Source
 asRead (Read v next w) s = readAs v next w

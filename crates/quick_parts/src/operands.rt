@@ -38,9 +38,9 @@ pub fn spot(z: Size, mem: &[u8], pc: u32, mode: u32, r: u32, a: u32) -> Spot
                 let b = plus(a, sign_extended(Size::Word, d));
                 Spot::At(b, plus(pc, 2), no_write())
             }
-            Got::Fault(_) => Spot::Far,
+            Got::Fault(_) => Spot::NotNear,
         },
-        _ => Spot::Far,
+        _ => Spot::NotNear,
     }
 }
 
@@ -66,11 +66,11 @@ pub fn read(z: Size, g: &[u32; 16], mem: &[u8], pc: u32, op: u32) -> Reading
         return Reading::Read(cut(z, general(g, op)), plus(pc, 0), no_write());
     }
     let Spot::At(b, next, moved) = readable(z, g, mem, pc, op) else {
-        return Reading::Far;
+        return Reading::NotNear;
     };
     match load(mem, b, z) {
         Got::Value(v) => Reading::Read(v, next, moved),
-        Got::Fault(_) => Reading::Far,
+        Got::Fault(_) => Reading::NotNear,
     }
 }
 

@@ -1,11 +1,11 @@
 -- A whole number z is raised by B: r is z + B, which is not negative. Code computes with raised numbers, which are natural numbers,
 -- and each law here says of an operation on raised numbers what it is on whole numbers. Assumes nothing.
 use mathlib.Core.Path.{_≡_, refl, sym, ap, _∙_}
-use mathlib.Core.Bool.{Bool, true, false, not, _&&_, _||_}
+use mathlib.Core.Bool.{not, _&&_, _||_}
 use Prim.Native.Nat.{ℕ, zero, suc, _+_, _-_, _≤_, _<_}
 use native.Mathlib.Omega.{arith}
 use lib.Dec.{ltb, leb}
-use lib.IntN.{+ℤ-idr, ℤ, pos, negsuc, negℤ, subℕ, sucℤ, _+ℤ_, _-ℤ_}
+use lib.IntN.{ℤ, pos, negsuc, negℤ, subℕ, sucℤ, _+ℤ_, _-ℤ_}
 use borrow.Author.Tests.{lt-ltb, le-ltb, le-leb, lt-leb}
 use Rattle.manual.specs.Word.{signedAt, inHalf, negative}
 use Rattle.manual.specs.Emac.{inWhole}
@@ -15,9 +15,6 @@ use Rattle.word.specs.SignedLaws.{signed-pos, signed-neg}
 abbrev pub Up : ℕ → ℤ → ℕ → Type 0
 Up B (pos n) r = r ≡ B + n
 Up B (negsuc n) r = r + suc n ≡ B
-
-pub up-is : (B : ℕ) (z w : ℤ) (r s : ℕ) → Up B z r → z ≡ w → r ≡ s → Up B w s
-up-is B z w r s h e f = rw (← e, ← f) h
 
 -- the same number raised by more
 pub higher : (B C : ℕ) (z : ℤ) (r : ℕ) → B ≤ C → Up B z r → Up C z (r + (C - B))

@@ -1,27 +1,14 @@
 -- The registers after a write. Assumes nothing.
-use mathlib.Core.Path.{_≡_, refl, sym}
-use mathlib.Core.Bool.{Bool, true, false, cond}
+use mathlib.Core.Path.{_≡_, sym}
 use mathlib.Core.List.{List}
-use Prim.Native.Nat.{ℕ, _+_, _%_, _≤_, _<_}
+use Prim.Native.Nat.{ℕ, _+_, _%_}
 use native.Mathlib.Omega.{arith}
-use lib.Dec.{ltb}
-use lib.ListN.{length, set, length-set}
+use lib.ListN.{length}
 use lib.Seq.{getD-set-same, getD-set-other}
 use borrow.Author.Tests.{lt-ltb, le-ltb}
 use Rattle.manual.specs.declared.Write.{Write}
-use Rattle.manual.specs.Registers.{addressOf, noWrite, written}
+use Rattle.manual.specs.Registers.{addressOf, written}
 use Rattle.word.specs.TestLaws.{by-lt}
-
-pub written-none : (g : List ℕ) → written noWrite g ≡ g
-unfolding written noWrite
-written-none g = refl
-
--- a write keeps the number of registers
-pub length-written : (w : Write) (g : List ℕ) → length (written w g) ≡ length g
-unfolding written
-length-written w g = by-lt (w .to) 16
-    (λ h. rw (lt-ltb (w .to) 16 h) (length-set g (w .to) (w .value)))
-    (λ h. rw (le-ltb (w .to) 16 h))
 
 module _ (w : Write) (g : List ℕ) (r : ℕ) where
   -- what was written

@@ -1,5 +1,5 @@
 -- The numbers that patterns stand for, by the sign bit; `signedAt` stays shut elsewhere. Assumes nothing.
-use mathlib.Core.Path.{_≡_, sym, ap, _∙_}
+use mathlib.Core.Path.{_≡_}
 use Prim.Native.Nat.{ℕ, suc, _+_, _-_, _%_, _^_, _≤_, _<_}
 use native.Mathlib.Nat.{mod-eq-of-lt}
 use native.Mathlib.Omega.{arith}
@@ -14,13 +14,6 @@ signed-pos H p h = simp (lt-ltb p H h)
 pub signed-neg : (H p : ℕ) → H ≤ p → signedAt H p ≡ negsuc (H + H - suc p)
 unfolding signedAt
 signed-neg H p h = simp (le-ltb p H h)
-
--- one number in patterns of two widths: the halves H and K, and the pattern of the wider has the ones above
-pub extend-pos : (H K p : ℕ) → p < H → p < K → signedAt K p ≡ signedAt H p
-extend-pos H K p h k = signed-pos K p k ∙ sym (signed-pos H p h)
-
-pub extend-neg : (H K p q : ℕ) → H ≤ p → K ≤ q → H + H - suc p ≡ K + K - suc q → signedAt K q ≡ signedAt H p
-extend-neg H K p q h k e = signed-neg K q k ∙ ap negsuc (sym e) ∙ sym (signed-neg H p h)
 
 -- the long of a number: the pattern itself, or with the ones above it
 pub long-pos : (H p : ℕ) → H ≤ 2 ^ 32 → p < H → p ≡ modZ (signedAt H p) (2 ^ 32)

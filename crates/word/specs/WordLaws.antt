@@ -37,9 +37,6 @@ pub cut-small : (z : Size) (v : ℕ) → v < numbers z → cut z v ≡ v
 unfolding cut
 cut-small z v h = mod-eq-of-lt h
 
-pub cut-cut : (z : Size) (v : ℕ) → cut z (cut z v) ≡ cut z v
-cut-cut z v = cut-small z (cut z v) (cut-below z v)
-
 pub plus-below : (a b : ℕ) → plus a b < 2 ^ 32
 unfolding plus
 plus-below a b = omega arith
@@ -47,14 +44,6 @@ plus-below a b = omega arith
 pub minus-below : (a b : ℕ) → minus a b < 2 ^ 32
 unfolding minus
 minus-below a b = omega arith
-
-pub plus-zero : (a : ℕ) → a < 2 ^ 32 → plus a 0 ≡ a
-unfolding plus
-plus-zero a h = omega arith
-
-pub plus-plus : (a b c : ℕ) → plus (plus a b) c ≡ plus a (b + c)
-unfolding plus
-plus-plus a b c = omega arith
 
 -- a remainder by at most one subtraction
 pub once : (w n : ℕ) → n ≤ w → w < n + n → w - n ≡ w % n
