@@ -20,6 +20,7 @@ ghost use mathlib.Core.Path.{_≡_};
 ghost use Rattle.manual.specs.Change.{done as doneOf, store as storeOf, acting as actingOf, enterAfter, enter as enterOf, illegal as illegalOf, privilege as privilegeOf, refuse as refuseOf, refused as refusedOf, notCarried, jump as jumpOf, push as pushOf, put as putOf, putTo};
 ghost use Rattle.manual.specs.Reply.{faultReply};
 
+// A change that stores nothing.
 pub fn done(next: u32, codes: u32, first: Write, second: Write) -> Change
     ensures { λ e. ⌜ e ≡ doneOf next codes first second ⌝ }
 {
@@ -32,6 +33,7 @@ pub fn done(next: u32, codes: u32, first: Write, second: Write) -> Change
     }
 }
 
+// A change that stores one number.
 pub fn store(next: u32, codes: u32, first: Write, second: Write, at: u32, z: Size, v: u32) -> Change
     ensures { λ e. ⌜ e ≡ storeOf next codes first second at z v ⌝ }
 {
@@ -44,6 +46,7 @@ pub fn store(next: u32, codes: u32, first: Write, second: Write, at: u32, z: Siz
     }
 }
 
+// A change with an action, and the flags as they were.
 pub fn acting(sr: u16, next: u32, first: Write, action: Action) -> Change
     ensures { λ e. ⌜ e ≡ actingOf sr next first action ⌝ }
 {
@@ -58,24 +61,28 @@ pub fn acting(sr: u16, next: u32, first: Write, action: Action) -> Change
     }
 }
 
+// A change that enters a vector after an operand's move.
 pub fn enter_after(first: Write, sr: u16, vector: u8, at: u32) -> Change
     ensures { λ e. ⌜ e ≡ enterAfter first sr vector at ⌝ }
 {
     acting(sr, at, first, Action::Enter(vector, at))
 }
 
+// A change that enters a vector and does nothing else.
 pub fn enter(sr: u16, vector: u8, at: u32) -> Change
     ensures { λ e. ⌜ e ≡ enterOf sr vector at ⌝ }
 {
     enter_after(no_write(), sr, vector, at)
 }
 
+// A change that enters vector 4 with the PC of the word.
 pub fn illegal(at: u32, sr: u16) -> Change
     ensures { λ e. ⌜ e ≡ illegalOf at sr ⌝ }
 {
     enter(sr, 4, at)
 }
 
+// A change that enters vector 8 with the PC of the word.
 pub fn privilege(at: u32, sr: u16) -> Change
     ensures { λ e. ⌜ e ≡ privilegeOf at sr ⌝ }
 {
@@ -95,18 +102,21 @@ fn refuse(n: Reply) -> Change
     }
 }
 
+// The refusal with the reply to a fault.
 pub fn refused(x: Fault) -> Change
     ensures { λ e. ⌜ e ≡ refusedOf x ⌝ }
 {
     refuse(fault_reply(x))
 }
 
+// The refusal of a word that is not carried yet: reply 5.
 pub fn not_carried() -> Change
     ensures { λ e. ⌜ e ≡ notCarried ⌝ }
 {
     refuse(Reply::NotCarried)
 }
 
+// A change of the PC alone.
 pub fn jump(sr: u16, next: u32) -> Change
     ensures { λ e. ⌜ e ≡ jumpOf sr next ⌝ }
 {
@@ -114,6 +124,7 @@ pub fn jump(sr: u16, next: u32) -> Change
     done(next, kept_codes(sr), none, none)
 }
 
+// A change that pushes a long, and goes on at `next`.
 pub fn push(g: &[u32; 16], sr: u16, next: u32, v: u32) -> Change
     ensures { λ e. ⌜ e ≡ pushOf (now (g .entry)) sr next v ⌝ }
 {
@@ -129,6 +140,7 @@ pub fn push(g: &[u32; 16], sr: u16, next: u32, v: u32) -> Change
     )
 }
 
+// A change that puts a value in a place: a register, memory, or nowhere.
 pub fn put(
     g: &[u32; 16],
     next: u32,

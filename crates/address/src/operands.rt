@@ -23,6 +23,7 @@ ghost use Prim.Native.Nat.{_+_, _-_, _*_, _/_, _%_, _^_, _≤_, _<_};
 ghost use Rattle.manual.specs.Memory.{mapped};
 ghost use Rattle.manual.specs.Address.{operand as operandOf, extension as extensionOf, index as indexOf, indexed as indexedOf, immediate as immediateOf, locate as locateOf, moved as movedOf, fetch as fetchOf, value as valueOf, reached as reachedOf, control as controlOf, source as sourceOf, destination as destinationOf};
 
+// The operand that a mode and a register's number name.
 pub fn operand(mode: u32, r: u32) -> Operand
     ensures { λ o. ⌜ o ≡ operandOf mode r ⌝ }
 {
@@ -45,6 +46,7 @@ pub fn operand(mode: u32, r: u32) -> Operand
     }
 }
 
+// How many bytes an operand's extension words take.
 pub fn extension(o: Operand, z: Size) -> u32
     ensures { λ r. ⌜ r ≡ extensionOf o z ⌝ }
 {
@@ -92,6 +94,7 @@ fn indexed(g: &[u32; 16], base: u32, w: u32) -> u32
     plus(plus(base, sign_extended(Size::Byte, w)), index(g, w))
 }
 
+// The place of an operand, or the fault of its extension words.
 pub fn locate(g: &[u32; 16], mem: &[u8], pc: u32, o: Operand, z: Size) -> Place
     ensures { λ p. ⌜ p ≡ locateOf (now (g .entry)) (mapped (now (mem .entry))) pc o z ⌝ }
 {
@@ -149,6 +152,7 @@ fn immediate(mem: &[u8], pc: u32, z: Size) -> Place
     }
 }
 
+// What (An)+ and -(An) write to their register; no write for any other operand.
 pub fn moved(g: &[u32; 16], o: Operand, z: Size) -> Write
     ensures { λ w. ⌜ w ≡ movedOf (now (g .entry)) o z ⌝ }
 {
@@ -159,6 +163,7 @@ pub fn moved(g: &[u32; 16], o: Operand, z: Size) -> Write
     }
 }
 
+// The value at a place, or the fault.
 pub fn fetch(g: &[u32; 16], mem: &[u8], p: Place, z: Size) -> Got
     ensures { λ got. ⌜ got ≡ fetchOf (now (g .entry)) (mapped (now (mem .entry))) p z ⌝ }
 {
@@ -171,6 +176,7 @@ pub fn fetch(g: &[u32; 16], mem: &[u8], p: Place, z: Size) -> Got
     }
 }
 
+// The value of an operand, or the fault.
 pub fn value(g: &[u32; 16], mem: &[u8], pc: u32, o: Operand, z: Size) -> Got
     ensures { λ got. ⌜ got ≡ valueOf (now (g .entry)) (mapped (now (mem .entry))) pc o z ⌝ }
 {
@@ -187,6 +193,7 @@ fn reached(p: Place) -> Reached
     }
 }
 
+// The address of a control operand, or that the mode has none.
 pub fn control(g: &[u32; 16], mem: &[u8], pc: u32, o: Operand) -> Reached
     ensures { λ r. ⌜ r ≡ controlOf (now (g .entry)) (mapped (now (mem .entry))) pc o ⌝ }
 {
@@ -213,7 +220,8 @@ fn source_by_leaves(g: &[u32; 16], mem: &[u8], pc: u32, op: u32, z: Size) -> Sou
     }
 }
 
-// What an operand reads, by one `match` on its mode: most operands are one of these, and the rest go by the leaves.
+// The operand in a word's low six bits: its value or fault, the PC after it, and its register's move. By one `match` on its mode:
+// most operands are one of these, and the rest go by the leaves.
 pub fn source(g: &[u32; 16], mem: &[u8], pc: u32, op: u32, z: Size) -> Source
     ensures { λ r. ⌜ r ≡ sourceOf (now (g .entry)) (mapped (now (mem .entry))) pc op z ⌝ }
 {

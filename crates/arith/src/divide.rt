@@ -85,7 +85,7 @@ pub fn signed_quotient(a: u32, b: u32) -> Quotient
     by_magnitudes(a, b)
 }
 
-// An overflow of DIVS.L.
+// The flags of an overflow of DIVS.L: the quotient is too large.
 pub fn overflow_codes(sr: u16) -> u32
     ensures { λ r. ⌜ r ≡ overflowCodes sr ⌝ }
 {

@@ -43,6 +43,7 @@ pub fn signed_shifted_right(v: u32, n: u32) -> Shifted
     }
 }
 
+// The flags of a shift; with count 0 X is kept and C is clear.
 pub fn shift_codes(sr: u16, n: u32, s: Shifted) -> u32
     ensures { λ r. ⌜ r ≡ shiftCodes sr n s ⌝ }
 {

@@ -96,6 +96,7 @@ fn not_read(reply: Reply) -> Answer
     }
 }
 
+// The state that a block holds; refused with 9, 8, 9 or 2, in this order.
 pub fn read_block(bytes: &[u8]) -> Answer
     ensures { λ r. ⌜ r ≡ readBlock (now (bytes .entry)) ⌝ }
 {

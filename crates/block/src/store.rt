@@ -111,6 +111,7 @@ fn write_state(cpu: Cpu, bytes: &mut [u8])
     write_number(bytes, block::STOPPED_AT, 1, last as u64);
 }
 
+// The state written as a block; refused with 9 where there are not 128 bytes for it.
 pub fn store_block(cpu: Cpu, bytes: &mut [u8]) -> Reply
     ensures { λ r. ⌜ stored r (now (bytes .exit)) ≡ storeBlock cpu (now (bytes .entry)) ⌝ }
 {

@@ -30,6 +30,7 @@ fn done_with(cpu: Cpu, e: Emac) -> Answer
     }
 }
 
+// An accumulator's number in the mode; refused with 2, or 6 above number 3.
 pub fn acc_get(cpu: Cpu, i: u32) -> Told
     ensures { λ r. ⌜ r ≡ accGetCall cpu i ⌝ }
 {
@@ -53,6 +54,7 @@ pub fn acc_get(cpu: Cpu, i: u32) -> Told
     }
 }
 
+// The state with an accumulator set to a number; refused with 2, or 6 above number 3.
 pub fn acc_set(cpu: Cpu, i: u32, v: u64) -> Answer
     ensures { λ r. ⌜ r ≡ accSetCall cpu i v ⌝ }
 {
@@ -72,6 +74,7 @@ pub fn acc_set(cpu: Cpu, i: u32, v: u64) -> Answer
     done_with(cpu, with_acc(e, i, e.macsr, v % 0x1_0000_0000_0000))
 }
 
+// ACCn and ACCextn as the physical registers; refused with 2, or 6 above number 3.
 pub fn acc_phys(cpu: Cpu, i: u32) -> Told
     ensures { λ r. ⌜ r ≡ accPhysCall cpu i ⌝ }
 {
@@ -98,6 +101,7 @@ pub fn acc_phys(cpu: Cpu, i: u32) -> Told
     }
 }
 
+// The state with the physical registers ACCn and ACCextn set; refused with 2, or 6 above number 3.
 pub fn set_acc_phys(cpu: Cpu, i: u32, acc: u32, ext: u16) -> Answer
     ensures { λ r. ⌜ r ≡ setAccPhysCall cpu i acc ext ⌝ }
 {
@@ -118,6 +122,7 @@ pub fn set_acc_phys(cpu: Cpu, i: u32, acc: u32, ext: u16) -> Answer
     done_with(cpu, with_acc(e, i, e.macsr, a))
 }
 
+// The state with MACSR written; refused with 2.
 pub fn set_macsr(cpu: Cpu, v: u32) -> Answer
     ensures { λ r. ⌜ r ≡ setMacsrCall cpu v ⌝ }
 {

@@ -8,6 +8,7 @@ use state::status::with_status;
 ghost use mathlib.Core.Path.{_≡_};
 ghost use Rattle.manual.specs.Exceptions.{setSrCall, told as toldOf, ipl as iplOf, supervisorCall};
 
+// The state with the bits of 0xB71F of a status register, the stack pointers swapped where S changes; refused with 2.
 pub fn set_sr(cpu: Cpu, v: u16) -> Answer
     ensures { λ r. ⌜ r ≡ setSrCall cpu v ⌝ }
 {
@@ -39,12 +40,14 @@ fn told(cpu: Cpu, v: u64) -> Told
     }
 }
 
+// The interrupt mask; refused with 2.
 pub fn ipl(cpu: Cpu) -> Told
     ensures { λ r. ⌜ r ≡ iplOf cpu ⌝ }
 {
     told(cpu, (cpu.sr / 0x100 % 8) as u64)
 }
 
+// S as 1 or 0; refused with 2.
 pub fn supervisor(cpu: Cpu) -> Told
     ensures { λ r. ⌜ r ≡ supervisorCall cpu ⌝ }
 {

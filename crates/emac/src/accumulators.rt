@@ -11,6 +11,7 @@ ghost use Prim.Native.Nat.{_+_, _*_, _/_, _%_, _^_, _<_};
 ghost use Rattle.manual.specs.Word.{modZ};
 ghost use Rattle.manual.specs.Emac.{accOf, withAcc, accPart, extPart, patternOf, turned as turnedOf, setMacsr, loadedAs, moveTo, copyAcc, clearAcc, readExt, withExt, setExt, setMask};
 
+// Accumulator i's pattern, i modulo 4.
 pub fn acc_of(e: Emac, i: u32) -> u64
     ensures { λ a. ⌜ a ≡ accOf e i ⌝ }
 {
@@ -18,6 +19,7 @@ pub fn acc_of(e: Emac, i: u32) -> u64
     e.acc[j]
 }
 
+// The unit with accumulator i and MACSR replaced.
 pub fn with_acc(e: Emac, i: u32, macsr: u32, a: u64) -> Emac
     ensures { λ r. ⌜ r ≡ withAcc i macsr a e ⌝ }
 {
@@ -28,6 +30,7 @@ pub fn with_acc(e: Emac, i: u32, macsr: u32, a: u64) -> Emac
     next
 }
 
+// ACCn's 32 bits of a pattern.
 pub fn acc_part(fi: bool, a: u64) -> u32
     ensures { λ r. ⌜ r ≡ accPart fi a ⌝ }
 {
@@ -38,6 +41,7 @@ pub fn acc_part(fi: bool, a: u64) -> u32
     }
 }
 
+// ACCextn's 16 bits of a pattern.
 pub fn ext_part(fi: bool, a: u64) -> u32
     ensures { λ r. ⌜ r ≡ extPart fi a ⌝ }
 {
@@ -48,6 +52,7 @@ pub fn ext_part(fi: bool, a: u64) -> u32
     }
 }
 
+// The pattern of ACCn's bits and ACCextn's.
 pub fn pattern_of(fi: bool, acc: u32, ext: u32) -> u64
     ensures { λ r. ⌜ r ≡ patternOf fi acc ext ⌝ }
 {
@@ -66,6 +71,7 @@ fn turned(old: bool, new: bool, a: u64) -> u64
     pattern_of(new, acc_part(old, a), ext_part(old, a))
 }
 
+// The unit with MACSR written; the physical registers stay.
 pub fn set_macsr(e: Emac, v: u32) -> Emac
     ensures { λ r. ⌜ r ≡ setMacsr e v ⌝ }
 {
@@ -106,6 +112,7 @@ fn loaded(k: Mode, v: u32) -> u64
     w + 0xFFFF_0000_0000
 }
 
+// The unit with a long moved to accumulator i.
 pub fn move_to(e: Emac, i: u32, v: u32) -> Emac
     ensures { λ r. ⌜ r ≡ moveTo e i v ⌝ }
 {
@@ -115,6 +122,7 @@ pub fn move_to(e: Emac, i: u32, v: u32) -> Emac
     with_acc(e, i, flagged(k, m, i, false, a), a)
 }
 
+// The unit with an accumulator copied to another, its PAV too.
 pub fn copy_acc(e: Emac, from: u32, to: u32) -> Emac
     ensures { λ r. ⌜ r ≡ copyAcc e from to ⌝ }
 {
@@ -124,6 +132,7 @@ pub fn copy_acc(e: Emac, from: u32, to: u32) -> Emac
     with_acc(e, to, flagged(mode_of(m), m, to, over, a), a)
 }
 
+// The unit with accumulator i and its PAV cleared.
 pub fn clear_acc(e: Emac, i: u32) -> Emac
     ensures { λ r. ⌜ r ≡ clearAcc e i ⌝ }
 {
@@ -131,6 +140,7 @@ pub fn clear_acc(e: Emac, i: u32) -> Emac
     with_acc(e, i, m, 0)
 }
 
+// ACCext01 or ACCext23 as a long.
 pub fn read_ext(fi: bool, e: Emac, i: u32) -> u32
     ensures { λ r. ⌜ r ≡ readExt fi e i ⌝ }
 {
@@ -147,6 +157,7 @@ fn with_ext(fi: bool, e: Emac, i: u32, ext: u32) -> Emac
     with_acc(e, i, m, pattern_of(fi, low, ext))
 }
 
+// The unit with ACCext01 or ACCext23 written.
 pub fn set_ext(e: Emac, i: u32, v: u32) -> Emac
     ensures { λ r. ⌜ r ≡ setExt e i v ⌝ }
 {
@@ -155,6 +166,7 @@ pub fn set_ext(e: Emac, i: u32, v: u32) -> Emac
     with_ext(fi, first, i % 4 + 1, v % 0x1_0000)
 }
 
+// The unit with MASK written, its upper half ones.
 pub fn set_mask(e: Emac, v: u32) -> Emac
     ensures { λ r. ⌜ r ≡ setMask e v ⌝ }
 {

@@ -6,12 +6,14 @@ ghost use lib.Dec.{eqb, leb};
 ghost use Rattle.manual.specs.Word.{bit};
 ghost use Rattle.manual.specs.Emac.{has, modeOf, pav as pavOf, withPav, extensionInUse, flagged as flaggedOf};
 
+// Whether FI of MACSR is set.
 pub fn fractional(macsr: u32) -> bool
     ensures { λ r. ⌜ r ≡ has macsr 5 ⌝ }
 {
     macsr / 0x20 % 2 == 1
 }
 
+// FI, SU, RT and OMC of MACSR.
 pub fn mode_of(macsr: u32) -> Mode
     ensures { λ r. ⌜ r ≡ modeOf macsr ⌝ }
 {
@@ -23,6 +25,7 @@ pub fn mode_of(macsr: u32) -> Mode
     }
 }
 
+// PAVn of MACSR.
 pub fn pav(macsr: u32, i: u32) -> bool
     ensures { λ r. ⌜ r ≡ pavOf macsr i ⌝ }
 {
@@ -36,6 +39,7 @@ fn weighed(b: bool, w: u32) -> u32
     if b { w } else { 0 }
 }
 
+// MACSR with PAVn as told.
 pub fn with_pav(macsr: u32, i: u32, b: bool) -> u32
     ensures { λ r. ⌜ r ≡ withPav macsr i b ⌝ }
 {
@@ -69,6 +73,7 @@ fn low_flags(k: Mode, over: bool, a: u64) -> u32
     weighed(ev, 1) + weighed(over, 2) + weighed(a == 0, 4) + weighed(a >= 0x8000_0000_0000, 8)
 }
 
+// MACSR after accumulator i was given a pattern.
 pub fn flagged(k: Mode, macsr: u32, i: u32, over: bool, a: u64) -> u32
     ensures { λ r. ⌜ r ≡ flaggedOf k macsr i over a ⌝ }
 {

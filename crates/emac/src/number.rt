@@ -3,6 +3,7 @@ use manual::Mode;
 ghost use mathlib.Core.Path.{_≡_};
 ghost use Rattle.manual.specs.Emac.{blockNumber, blockInRange};
 
+// The number that a pattern stands for in a mode, in 64 bits of two's complement.
 pub fn block_number(k: Mode, a: u64) -> u64
     ensures { λ b. ⌜ b ≡ blockNumber k a ⌝ }
 {
@@ -16,6 +17,7 @@ pub fn block_number(k: Mode, a: u64) -> u64
     p + 0xFFFF_0000_0000_0000
 }
 
+// Whether 64 bits are an accumulator's number in a mode.
 pub fn block_in_range(k: Mode, b: u64) -> bool
     ensures { λ r. ⌜ r ≡ blockInRange k b ⌝ }
 {

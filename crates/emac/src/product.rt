@@ -147,7 +147,7 @@ fn scaled(s: u32, v: u64) -> u64
     v
 }
 
-// The product as an accumulator takes it.
+// The product as an accumulator takes it in a mode: scaled, raised by 2^52, and whether it overflows.
 pub fn scaled_product(k: Mode, scale: u32, x: u32, y: u32) -> Raised
     ensures { λ r. ⌜ (r ≡ raisedProduct k scale x y) × (2 ^ 51 - 2 ≤ r .value) × (r .value ≤ 2 ^ 52 + 2 ^ 51) ⌝ }
 {

@@ -55,6 +55,7 @@ fn clamp31(omc: bool, below: bool, q: u64) -> u32
     }
 }
 
+// The long that a pattern is read as, rounded and saturated by the mode.
 pub fn mac_read(mode: Mode, a: u64) -> u32
     ensures { λ v. ⌜ v ≡ readAcc mode a ⌝ }
 {

@@ -12,7 +12,7 @@ ghost use Rattle.manual.specs.Emac.{valueOf, limit as limitOf, emacOf, accumula
 ghost use Rattle.emac.specs.Products.{raised};
 ghost use Rattle.emac.specs.Sums.{IsSum, IsOutside, IsStored, IsSettled, IsSummed};
 
-// The number of a pattern's 48 bits.
+// The number that a pattern's 48 bits stand for in a mode, raised by 2^52.
 pub fn value_of(k: Mode, a: u64) -> u64
     ensures { λ r. ⌜ (r ≡ raised (2 ^ 52) (valueOf k a)) × (2 ^ 52 - 2 ^ 47 ≤ r) × (r < 2 ^ 52 + 2 ^ 48) ⌝ }
 {

@@ -6,6 +6,7 @@ use manual::Reply;
 ghost use mathlib.Core.Path.{_≡_};
 ghost use Rattle.emac_lent.specs.UnitCalls.{answer, accumulateCall, setMacsrCall, moveToCall, clearAccCall};
 
+// MAC, and MSAC where `sub`, on a lent unit; refused with 2, or 6 above number 3.
 pub fn accumulate(e: &mut Emac, i: u32, scale: u32, sub: bool, x: u32, y: u32) -> Reply
     ensures { λ r. ⌜ answer r (now (e .exit)) ≡ accumulateCall (now (e .entry)) i scale sub x y ⌝ }
 {
@@ -15,6 +16,7 @@ pub fn accumulate(e: &mut Emac, i: u32, scale: u32, sub: bool, x: u32, y: u32) -
     a.reply
 }
 
+// MACSR of a lent unit written; refused with 2.
 pub fn set_macsr(e: &mut Emac, v: u32) -> Reply
     ensures { λ r. ⌜ answer r (now (e .exit)) ≡ setMacsrCall (now (e .entry)) v ⌝ }
 {
@@ -24,6 +26,7 @@ pub fn set_macsr(e: &mut Emac, v: u32) -> Reply
     a.reply
 }
 
+// An accumulator of a lent unit set; refused with 2, or 6 above number 3.
 pub fn move_to(e: &mut Emac, i: u32, v: u32) -> Reply
     ensures { λ r. ⌜ answer r (now (e .exit)) ≡ moveToCall (now (e .entry)) i v ⌝ }
 {
@@ -33,6 +36,7 @@ pub fn move_to(e: &mut Emac, i: u32, v: u32) -> Reply
     a.reply
 }
 
+// An accumulator of a lent unit cleared; refused with 2, or 6 above number 3.
 pub fn clear_acc(e: &mut Emac, i: u32) -> Reply
     ensures { λ r. ⌜ answer r (now (e .exit)) ≡ clearAccCall (now (e .entry)) i ⌝ }
 {

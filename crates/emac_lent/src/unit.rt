@@ -42,6 +42,7 @@ pub fn accumulate(e: Emac, i: u32, scale: u32, sub: bool, x: u32, y: u32) -> Ema
     }
 }
 
+// The unit with MACSR written; refused with 2.
 pub fn set_macsr(e: Emac, v: u32) -> EmacAnswer
     ensures { λ r. ⌜ r ≡ setMacsrCall e v ⌝ }
 {
@@ -72,6 +73,7 @@ pub fn move_to(e: Emac, i: u32, v: u32) -> EmacAnswer
     }
 }
 
+// The unit with an accumulator cleared; refused with 2, or 6 above number 3.
 pub fn clear_acc(e: Emac, i: u32) -> EmacAnswer
     ensures { λ r. ⌜ r ≡ clearAccCall e i ⌝ }
 {

@@ -111,6 +111,7 @@ fn not_loaded(reply: Reply) -> Loaded
     }
 }
 
+// The machine that an image file says, its memory in place; refused with 9, 8, 9 or 2, in this order.
 pub fn read_image(file: &[u8], mem: &mut [u8]) -> Loaded
     ensures { λ r. ⌜ image (r .reply) (r .budget) (r .cpu) (now (mem .exit)) ≡ loadImage (now (file .entry)) (now (mem .entry)) ⌝ }
 {

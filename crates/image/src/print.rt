@@ -136,12 +136,14 @@ fn address_line(t: Text, cpu: Cpu) -> Text
     put(longs(put(t, b'a'), &g, 8), b'\n')
 }
 
+// The text of a refused file: the answer's line.
 pub fn answer_text(reply: Reply) -> Text
     ensures { λ r. ⌜ printed (r .bytes) (r .len) ≡ textOf (answerLine reply) ⌝ }
 {
     answer_line(none(), reply)
 }
 
+// The text of a run: answer, steps, PC, SR, registers, the other pointer and MACSR.
 pub fn run_text(reply: Reply, count: u32, cpu: Cpu) -> Text
     ensures { λ r. ⌜ printed (r .bytes) (r .len) ≡ textOf (runText reply count cpu) ⌝ }
 {

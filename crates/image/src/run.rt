@@ -9,6 +9,7 @@ ghost use mathlib.Core.Path.{_≡_};
 ghost use Rattle.manual.specs.Image.{printed};
 ghost use Rattle.image.specs.ImageRun.{imageRun, imageRan};
 
+// The text of the run of an image file, or the first line alone where the file is refused.
 // `mem` has 49,152 bytes; whatever is in it, the file's bytes and zeros take its place.
 pub fn answer(file: &[u8], mem: &mut [u8]) -> Text
     ensures { λ r. ⌜ imageRan (printed (r .bytes) (r .len)) (now (mem .exit)) ≡ imageRun (now (file .entry)) (now (mem .entry)) ⌝ }

@@ -32,6 +32,7 @@ ghost use Rattle.manual.specs.Change.{acting as actingOf};
 ghost use Rattle.line4.specs.ControlAddress.{controlAddress as controlAddressOf};
 ghost use Rattle.instructions.specs.Line4.{nothing, lea as leaOf, pea as peaOf, jsr as jsrOf, jmp as jmpOf, rts as rtsOf, trap as trapOf, link as linkOf, unlk as unlkOf, many as manyOf, moveMany};
 
+// NOP and PULSE: nothing but the PC.
 pub fn nop(at: u32, sr: u16) -> Change
     ensures { λ e. ⌜ e ≡ nothing at sr ⌝ }
 {
@@ -58,6 +59,7 @@ fn control_address(g: &[u32; 16], at: u32, sr: u16, mem: &[u8], op: u32) -> Way
     }
 }
 
+// LEA: the operand's address to An.
 pub fn lea(g: &[u32; 16], at: u32, sr: u16, mem: &[u8], op: u32) -> Change
     ensures { λ e. ⌜ e ≡ leaOf (now (g .entry)) at sr (mapped (now (mem .entry))) op ⌝ }
 {
@@ -69,6 +71,7 @@ pub fn lea(g: &[u32; 16], at: u32, sr: u16, mem: &[u8], op: u32) -> Change
     }
 }
 
+// PEA: the operand's address is pushed.
 pub fn pea(g: &[u32; 16], at: u32, sr: u16, mem: &[u8], op: u32) -> Change
     ensures { λ e. ⌜ e ≡ peaOf (now (g .entry)) at sr (mapped (now (mem .entry))) op ⌝ }
 {
@@ -78,6 +81,7 @@ pub fn pea(g: &[u32; 16], at: u32, sr: u16, mem: &[u8], op: u32) -> Change
     }
 }
 
+// JSR: the address of the next instruction is pushed, and the program goes on at the operand's.
 pub fn jsr(g: &[u32; 16], at: u32, sr: u16, mem: &[u8], op: u32) -> Change
     ensures { λ e. ⌜ e ≡ jsrOf (now (g .entry)) at sr (mapped (now (mem .entry))) op ⌝ }
 {
@@ -87,6 +91,7 @@ pub fn jsr(g: &[u32; 16], at: u32, sr: u16, mem: &[u8], op: u32) -> Change
     }
 }
 
+// JMP: the program goes on at the operand's address.
 pub fn jmp(g: &[u32; 16], at: u32, sr: u16, mem: &[u8], op: u32) -> Change
     ensures { λ e. ⌜ e ≡ jmpOf (now (g .entry)) at sr (mapped (now (mem .entry))) op ⌝ }
 {
@@ -96,6 +101,7 @@ pub fn jmp(g: &[u32; 16], at: u32, sr: u16, mem: &[u8], op: u32) -> Change
     }
 }
 
+// RTS: the PC is popped.
 pub fn rts(g: &[u32; 16], sr: u16, mem: &[u8]) -> Change
     ensures { λ e. ⌜ e ≡ rtsOf (now (g .entry)) sr (mapped (now (mem .entry))) ⌝ }
 {
@@ -109,6 +115,7 @@ pub fn rts(g: &[u32; 16], sr: u16, mem: &[u8]) -> Change
     done(v, codes, popped, no_write())
 }
 
+// TRAP: vector 32 and up, with the next instruction's PC.
 pub fn trap(at: u32, sr: u16, op: u32) -> Change
     ensures { λ e. ⌜ e ≡ trapOf at sr op ⌝ }
 {
@@ -116,6 +123,7 @@ pub fn trap(at: u32, sr: u16, op: u32) -> Change
     enter(sr, vector, plus(at, 2))
 }
 
+// LINK: An is pushed and takes the stack pointer, to which the displacement is added.
 pub fn link(g: &[u32; 16], at: u32, sr: u16, mem: &[u8], op: u32) -> Change
     ensures { λ e. ⌜ e ≡ linkOf (now (g .entry)) at sr (mapped (now (mem .entry))) op ⌝ }
 {
@@ -132,6 +140,7 @@ pub fn link(g: &[u32; 16], at: u32, sr: u16, mem: &[u8], op: u32) -> Change
     store(next, codes, frame, top, sp, Size::Long, address(g, op))
 }
 
+// UNLK: the stack pointer is An, and An is popped.
 pub fn unlk(g: &[u32; 16], at: u32, sr: u16, mem: &[u8], op: u32) -> Change
     ensures { λ e. ⌜ e ≡ unlkOf (now (g .entry)) at sr (mapped (now (mem .entry))) op ⌝ }
 {
@@ -157,6 +166,7 @@ fn many(storing: bool, sr: u16, next: u32, mask: u32, a: u32) -> Change
     }
 }
 
+// MOVEM to memory where `storing`, else from it.
 pub fn movem(storing: bool, g: &[u32; 16], at: u32, sr: u16, mem: &[u8], op: u32) -> Change
     ensures { λ e. ⌜ e ≡ moveMany storing (now (g .entry)) at sr (mapped (now (mem .entry))) op ⌝ }
 {

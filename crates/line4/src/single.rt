@@ -55,12 +55,14 @@ fn replaced(at: u32, sr: u16, op: u32, v: u32) -> Change
     done(next, codes, no_write(), write_data(op, v))
 }
 
+// EXTB: a byte to a long.
 pub fn extb(g: &[u32; 16], at: u32, sr: u16, op: u32) -> Change
     ensures { λ e. ⌜ e ≡ extendByte (now (g .entry)) at sr op ⌝ }
 {
     replaced(at, sr, op, sign_extended(Size::Byte, data(g, op)))
 }
 
+// EXT.W: a byte to a word.
 pub fn ext_w(g: &[u32; 16], at: u32, sr: u16, op: u32) -> Change
     ensures { λ e. ⌜ e ≡ extendToWord (now (g .entry)) at sr op ⌝ }
 {
@@ -77,12 +79,14 @@ pub fn ext_w(g: &[u32; 16], at: u32, sr: u16, op: u32) -> Change
     )
 }
 
+// EXT.L: a word to a long.
 pub fn ext_l(g: &[u32; 16], at: u32, sr: u16, op: u32) -> Change
     ensures { λ e. ⌜ e ≡ extendToLong (now (g .entry)) at sr op ⌝ }
 {
     replaced(at, sr, op, sign_extended(Size::Word, data(g, op)))
 }
 
+// SWAP: the two words change places.
 pub fn swap(g: &[u32; 16], at: u32, sr: u16, op: u32) -> Change
     ensures { λ e. ⌜ e ≡ swapOf (now (g .entry)) at sr op ⌝ }
 {
@@ -104,12 +108,14 @@ fn saturated(sr: u16, v: u32) -> u32
     }
 }
 
+// SATS: after an overflow, the largest number of the sign that the value should have had.
 pub fn sats(g: &[u32; 16], at: u32, sr: u16, op: u32) -> Change
     ensures { λ e. ⌜ e ≡ saturate (now (g .entry)) at sr op ⌝ }
 {
     replaced(at, sr, op, saturated(sr, data(g, op)))
 }
 
+// NEG: 0 less Dn.
 pub fn neg(g: &[u32; 16], at: u32, op: u32) -> Change
     ensures { λ e. ⌜ e ≡ negate (now (g .entry)) at op ⌝ }
 {
@@ -120,6 +126,7 @@ pub fn neg(g: &[u32; 16], at: u32, op: u32) -> Change
     done(next, codes, none, write_data(op, r.value))
 }
 
+// NEGX: 0 less Dn and X.
 pub fn negx(g: &[u32; 16], at: u32, sr: u16, op: u32) -> Change
     ensures { λ e. ⌜ e ≡ negateExtended (now (g .entry)) at sr op ⌝ }
 {
@@ -130,12 +137,14 @@ pub fn negx(g: &[u32; 16], at: u32, sr: u16, op: u32) -> Change
     done(next, codes, none, write_data(op, r.value))
 }
 
+// NOT: every bit of Dn inverted.
 pub fn not(g: &[u32; 16], at: u32, sr: u16, op: u32) -> Change
     ensures { λ e. ⌜ e ≡ complement (now (g .entry)) at sr op ⌝ }
 {
     replaced(at, sr, op, 0xFFFF_FFFF - data(g, op))
 }
 
+// CLR: 0 to the operand's place.
 pub fn clr(g: &[u32; 16], at: u32, sr: u16, mem: &[u8], op: u32) -> Change
     ensures { λ e. ⌜ e ≡ clear (now (g .entry)) at sr (mapped (now (mem .entry))) op ⌝ }
 {
@@ -144,6 +153,7 @@ pub fn clr(g: &[u32; 16], at: u32, sr: u16, mem: &[u8], op: u32) -> Change
     put_to(g, move_codes(z, 0, sr), to, z, 0)
 }
 
+// TST: the operand's flags.
 pub fn tst(g: &[u32; 16], at: u32, sr: u16, mem: &[u8], op: u32) -> Change
     ensures { λ e. ⌜ e ≡ test (now (g .entry)) at sr (mapped (now (mem .entry))) op ⌝ }
 {
@@ -160,6 +170,7 @@ pub fn tst(g: &[u32; 16], at: u32, sr: u16, mem: &[u8], op: u32) -> Change
     done(next, codes, first, no_write())
 }
 
+// TAS: the flags of a byte, whose highest bit is then set.
 pub fn tas(g: &[u32; 16], at: u32, sr: u16, mem: &[u8], op: u32) -> Change
     ensures { λ e. ⌜ e ≡ testAndSet (now (g .entry)) at sr (mapped (now (mem .entry))) op ⌝ }
 {
@@ -173,6 +184,7 @@ pub fn tas(g: &[u32; 16], at: u32, sr: u16, mem: &[u8], op: u32) -> Change
     put_to(g, codes, to, Size::Byte, with_bit(7, true, v))
 }
 
+// The product of MULS.L or MULU.L, as the second word says.
 pub fn product(w: u32, d: u32, v: u32) -> u32
     ensures { λ r. ⌜ r ≡ cond (eqb (w / 0x800 % 2) 1) (signedLongProduct d v) (longProduct d v) ⌝ }
 {
@@ -206,6 +218,7 @@ fn word_and_long(g: &[u32; 16], at: u32, mem: &[u8], op: u32) -> WordAndLong
     }
 }
 
+// MULS.L and MULU.L.
 pub fn mul_l(g: &[u32; 16], at: u32, sr: u16, mem: &[u8], op: u32) -> Change
     ensures { λ e. ⌜ e ≡ multiply (now (g .entry)) at sr (mapped (now (mem .entry))) op ⌝ }
 {
@@ -252,6 +265,7 @@ fn quotient_done(next: u32, sr: u16, first: Write, w: u32, q: Quotient) -> Chang
     }
 }
 
+// DIVS.L, DIVU.L, REMS.L and REMU.L; vector 5 for a divisor of 0.
 pub fn div_l(g: &[u32; 16], at: u32, sr: u16, mem: &[u8], op: u32) -> Change
     ensures { λ e. ⌜ e ≡ divide (now (g .entry)) at sr (mapped (now (mem .entry))) op ⌝ }
 {

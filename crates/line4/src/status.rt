@@ -39,6 +39,7 @@ fn privileged(at: u32, sr: u16, does: Change) -> Change
     }
 }
 
+// RTE: the return, or vector 8 for a user.
 pub fn rte(at: u32, sr: u16) -> Change
     ensures { λ e. ⌜ e ≡ rteOf at sr ⌝ }
 {
@@ -46,6 +47,7 @@ pub fn rte(at: u32, sr: u16) -> Change
     privileged(at, sr, acting(sr, next, no_write(), Action::Return))
 }
 
+// STOP: a new status register, and stopped; or vector 8 for a user.
 pub fn stop(at: u32, sr: u16, mem: &[u8]) -> Change
     ensures { λ e. ⌜ e ≡ stopOf at sr (mapped (now (mem .entry))) ⌝ }
 {
@@ -58,6 +60,7 @@ pub fn stop(at: u32, sr: u16, mem: &[u8]) -> Change
     privileged(at, sr, acting(sr, next, no_write(), Action::Stop(v)))
 }
 
+// STLDSR: the status register pushed, and a new one; or vector 8 for a user.
 pub fn stldsr(at: u32, sr: u16, mem: &[u8]) -> Change
     ensures { λ e. ⌜ e ≡ stldsrOf at sr (mapped (now (mem .entry))) ⌝ }
 {
@@ -77,12 +80,14 @@ pub fn stldsr(at: u32, sr: u16, mem: &[u8]) -> Change
     privileged(at, sr, acting(sr, next, no_write(), Action::PushStatus(v)))
 }
 
+// HALT: stopped.
 pub fn halt(at: u32, sr: u16) -> Change
     ensures { λ e. ⌜ e ≡ haltOf at sr ⌝ }
 {
     acting(sr, plus(at, 2), no_write(), Action::Halt)
 }
 
+// MOVE to USP, or vector 8 for a user.
 pub fn to_usp(g: &[u32; 16], at: u32, sr: u16, op: u32) -> Change
     ensures { λ e. ⌜ e ≡ toUsp (now (g .entry)) at sr op ⌝ }
 {
@@ -91,6 +96,7 @@ pub fn to_usp(g: &[u32; 16], at: u32, sr: u16, op: u32) -> Change
     privileged(at, sr, acting(sr, next, no_write(), Action::Other(a)))
 }
 
+// MOVE from USP, or vector 8 for a user.
 pub fn from_usp(at: u32, sr: u16, other: u32, op: u32) -> Change
     ensures { λ e. ⌜ e ≡ fromUsp at sr other op ⌝ }
 {
@@ -100,6 +106,7 @@ pub fn from_usp(at: u32, sr: u16, other: u32, op: u32) -> Change
     privileged(at, sr, done(next, codes, none, write_address(op, other)))
 }
 
+// MOVE from SR to Dn, or vector 8 for a user.
 pub fn from_sr(g: &[u32; 16], at: u32, sr: u16, op: u32) -> Change
     ensures { λ e. ⌜ e ≡ fromSr (now (g .entry)) at sr op ⌝ }
 {
@@ -114,6 +121,7 @@ pub fn from_sr(g: &[u32; 16], at: u32, sr: u16, op: u32) -> Change
     }
 }
 
+// MOVE to SR, or vector 8 for a user.
 pub fn to_sr(g: &[u32; 16], at: u32, sr: u16, mem: &[u8], op: u32) -> Change
     ensures { λ e. ⌜ e ≡ toSr (now (g .entry)) at sr (mapped (now (mem .entry))) op ⌝ }
 {
@@ -132,6 +140,7 @@ pub fn to_sr(g: &[u32; 16], at: u32, sr: u16, mem: &[u8], op: u32) -> Change
     }
 }
 
+// MOVE from CCR to Dn.
 pub fn from_ccr(g: &[u32; 16], at: u32, sr: u16, op: u32) -> Change
     ensures { λ e. ⌜ e ≡ fromCcr (now (g .entry)) at sr op ⌝ }
 {
@@ -142,6 +151,7 @@ pub fn from_ccr(g: &[u32; 16], at: u32, sr: u16, op: u32) -> Change
     done(next, codes, none, write_data(op, low))
 }
 
+// MOVE to CCR.
 pub fn to_ccr(g: &[u32; 16], at: u32, mem: &[u8], op: u32) -> Change
     ensures { λ e. ⌜ e ≡ toCcr (now (g .entry)) at (mapped (now (mem .entry))) op ⌝ }
 {

@@ -53,6 +53,7 @@ fn load_moves(op: u32, a: u32) -> Write
     }
 }
 
+// The address of a MAC's load, masked where the second word says so.
 pub fn load_address(mask: u32, w: u32, base: u32) -> u32
     ensures { λ r. ⌜ r ≡ loadAddress mask w base ⌝ }
 {

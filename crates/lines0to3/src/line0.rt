@@ -73,6 +73,7 @@ fn ff1(g: &[u32; 16], at: u32, sr: u16, op: u32) -> Change
     done(next, codes, none, write_data(op, u32::leading_zeros(v)))
 }
 
+// ANDI, ORI and EORI.
 pub fn logic_immediate(l: Logic, g: &[u32; 16], at: u32, sr: u16, mem: &[u8], op: u32) -> Change
     ensures { λ e. ⌜ e ≡ logicImmediate l (now (g .entry)) at sr (mapped (now (mem .entry))) op ⌝ }
 {
@@ -88,6 +89,7 @@ pub fn logic_immediate(l: Logic, g: &[u32; 16], at: u32, sr: u16, mem: &[u8], op
     done(next, codes, none, write_data(op, r))
 }
 
+// ADDI and SUBI.
 pub fn sum_immediate(add: bool, g: &[u32; 16], at: u32, mem: &[u8], op: u32) -> Change
     ensures { λ e. ⌜ e ≡ sumImmediate add (now (g .entry)) at (mapped (now (mem .entry))) op ⌝ }
 {
@@ -118,6 +120,7 @@ fn cmpi(z: Size, g: &[u32; 16], at: u32, sr: u16, mem: &[u8], op: u32) -> Change
     done(next, codes, none, none)
 }
 
+// BTST, BCHG, BCLR and BSET of Dn.
 pub fn bit_of_data(g: &[u32; 16], pc: u32, sr: u16, op: u32, n: u32) -> Change
     ensures { λ e. ⌜ e ≡ bitOfData (now (g .entry)) pc sr op n ⌝ }
 {

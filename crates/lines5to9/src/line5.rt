@@ -24,6 +24,7 @@ ghost use Rattle.instructions.specs.Line5.{quickNumber, quickAdds, quickAddress
 ghost use Rattle.manual.specs.Memory.{mapped};
 ghost use Rattle.manual.specs.Differences.{anySize};
 
+// The number of ADDQ, SUBQ and a shift: 1 to 8.
 pub fn quick_number(op: u32) -> u32
     ensures { λ r. ⌜ r ≡ quickNumber op ⌝ }
 {
@@ -31,6 +32,7 @@ pub fn quick_number(op: u32) -> u32
     if n == 0 { 8 } else { n }
 }
 
+// ADDQ and SUBQ to An.
 pub fn quick_address(g: &[u32; 16], at: u32, sr: u16, op: u32) -> Change
     ensures { λ e. ⌜ e ≡ quickAddress (now (g .entry)) at sr op ⌝ }
 {
@@ -64,6 +66,7 @@ fn quick(g: &[u32; 16], at: u32, mem: &[u8], op: u32) -> Change
     }
 }
 
+// Scc: the low byte of Dn all ones where the condition holds, else 0.
 pub fn scc(g: &[u32; 16], at: u32, sr: u16, op: u32) -> Change
     ensures { λ e. ⌜ e ≡ setByCondition (now (g .entry)) at sr op ⌝ }
 {

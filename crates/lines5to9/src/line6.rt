@@ -42,6 +42,7 @@ fn displacement_bytes(low: u32) -> u32
     }
 }
 
+// BRA: the program goes on at a displacement from the word after.
 pub fn bra(at: u32, sr: u16, mem: &[u8], op: u32) -> Change
     ensures { λ e. ⌜ e ≡ braOf at sr (mapped (now (mem .entry))) op ⌝ }
 {
@@ -53,6 +54,7 @@ pub fn bra(at: u32, sr: u16, mem: &[u8], op: u32) -> Change
     jump(sr, plus(pc, d))
 }
 
+// BSR: the address of the next instruction is pushed, and the program goes on like BRA.
 pub fn bsr(g: &[u32; 16], at: u32, sr: u16, mem: &[u8], op: u32) -> Change
     ensures { λ e. ⌜ e ≡ bsrOf (now (g .entry)) at sr (mapped (now (mem .entry))) op ⌝ }
 {

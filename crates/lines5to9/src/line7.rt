@@ -17,6 +17,7 @@ ghost use Prim.Native.Nat.{_+_, _*_, _/_, _%_};
 ghost use Rattle.manual.specs.Memory.{mapped};
 ghost use Rattle.instructions.specs.Line7.{moveQuick, moveSigned, moveZero, line7 as line7Of};
 
+// MOVEQ: a byte, sign-extended, to Dn.
 pub fn moveq(at: u32, sr: u16, op: u32) -> Change
     ensures { λ e. ⌜ e ≡ moveQuick at sr op ⌝ }
 {

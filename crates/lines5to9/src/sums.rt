@@ -31,6 +31,7 @@ ghost use Rattle.manual.specs.Memory.{mapped};
 ghost use Rattle.manual.specs.Differences.{anySize};
 ghost use Rattle.instructions.specs.Rows.{placeIn};
 
+// ADD to Dn, or SUB.
 pub fn to_data(add: bool, g: &[u32; 16], at: u32, mem: &[u8], op: u32) -> Change
     ensures { λ e. ⌜ e ≡ toData add (now (g .entry)) at (mapped (now (mem .entry))) op ⌝ }
 {
@@ -54,6 +55,7 @@ pub fn to_data(add: bool, g: &[u32; 16], at: u32, mem: &[u8], op: u32) -> Change
     )
 }
 
+// A number added to the value at an operand's place, or taken from it.
 pub fn to_place(add: bool, z: Size, g: &[u32; 16], at: u32, mem: &[u8], op: u32, n: u32) -> Change
     ensures { λ e. ⌜ e ≡ toPlace add z (now (g .entry)) at (mapped (now (mem .entry))) op n ⌝ }
 {
@@ -68,18 +70,21 @@ pub fn to_place(add: bool, z: Size, g: &[u32; 16], at: u32, mem: &[u8], op: u32,
     put_to(g, codes, to, z, r.value)
 }
 
+// ADD to memory, or SUB.
 pub fn to_memory(add: bool, g: &[u32; 16], at: u32, mem: &[u8], op: u32) -> Change
     ensures { λ e. ⌜ e ≡ toMemory add (now (g .entry)) at (mapped (now (mem .entry))) op ⌝ }
 {
     to_place(add, size_of(op / 64), g, at, mem, op, data(g, op / 512))
 }
 
+// A number added to a long, or taken from it, wrapped.
 pub fn more_or_less(add: bool, old: u32, v: u32) -> u32
     ensures { λ r. ⌜ r ≡ moreOrLess add old v ⌝ }
 {
     if add { plus(old, v) } else { minus(old, v) }
 }
 
+// ADDA, or SUBA.
 pub fn to_address(
     add: bool,
     z: Size,
@@ -105,6 +110,7 @@ pub fn to_address(
     done(next, codes, first, write_address(op / 512, r))
 }
 
+// ADDX, or SUBX.
 pub fn with_x(add: bool, g: &[u32; 16], at: u32, sr: u16, op: u32) -> Change
     ensures { λ e. ⌜ e ≡ withX add (now (g .entry)) at sr op ⌝ }
 {

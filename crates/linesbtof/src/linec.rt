@@ -41,6 +41,7 @@ fn logic_to_data(l: Logic, g: &[u32; 16], at: u32, sr: u16, mem: &[u8], op: u32)
     done(next, codes, first, write_data(op / 512, merged(z, old, r)))
 }
 
+// The product of MULS.W where `signs`, else of MULU.W.
 pub fn product(signs: bool, x: u32, y: u32) -> u32
     ensures { λ r. ⌜ r ≡ productOf signs x y ⌝ }
 {

@@ -39,6 +39,7 @@ fn shifted(signs: bool, op: u32, v: u32, n: u32) -> Shifted
     }
 }
 
+// ASL and ASR where `signs`, else LSL and LSR.
 pub fn shift(signs: bool, g: &[u32; 16], at: u32, sr: u16, op: u32) -> Change
     ensures { λ e. ⌜ e ≡ shiftOf signs (now (g .entry)) at sr op ⌝ }
 {

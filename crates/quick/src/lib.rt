@@ -58,7 +58,8 @@ pub enum Attempt {
     Left,
 }
 
-// The instructions that leave the EMAC unit as it is. The bodies in quick.. are for the quick path alone; the others are the plain engine's.
+// The instruction of a row done in place, or left with nothing changed.
+// The instructions that leave the EMAC unit as it is. The bodies of quick_bodies are for the quick path alone; the others are the plain engine's.
 pub fn in_place(row: u8, g: &mut [u32; 16], pc: u32, sr: u16, mem: &mut [u8], op: u32) -> Effect
     ensures { λ r. ⌜ ((other : ℕ) (e : Emac) → after r (now (g .exit)) (now (mem .exit)) ≡ agreed r (ofRow row (now (g .entry)) pc sr other e (mapped (now (mem .entry))) op) sr (now (g .entry)) (mapped (now (mem .entry)))) ⌝ }
 {
@@ -119,6 +120,7 @@ pub fn in_place(row: u8, g: &mut [u32; 16], pc: u32, sr: u16, mem: &mut [u8], op
     }
 }
 
+// The instruction of a row done in place, MAC too, or left with nothing changed.
 pub fn quick_step(
     row: u8,
     g: &mut [u32; 16],

@@ -108,6 +108,7 @@ fn mac_product(g: &mut [u32; 16], pc: u32, mask: u32, mem: &[u8], op: u32) -> Pr
     mac_with_load(g, pc, mask, mem, op, w)
 }
 
+// MAC and MSAC of longs done in place, or left with nothing changed.
 // The unit is called in one place, so that a compiler puts it there.
 pub fn quick_mac(
     g: &mut [u32; 16],

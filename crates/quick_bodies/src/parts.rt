@@ -134,6 +134,7 @@ fn part_of(row: u8, op: u32) -> Size
     }
 }
 
+// MOVE, MOVEA, TST, MVS, MVZ, MULU.W and MULS.W of bytes and words, done in place or left.
 // Of the rows named here; any other is left.
 pub fn part(row: u8, g: &mut [u32; 16], pc: u32, sr: u16, mem: &mut [u8], op: u32) -> Effect
     ensures { λ r. ⌜ ((other : ℕ) (e : Emac) → after r (now (g .exit)) (now (mem .exit)) ≡ agreed r (ofRow row (now (g .entry)) pc sr other e (mapped (now (mem .entry))) op) sr (now (g .entry)) (mapped (now (mem .entry)))) ⌝ }

@@ -28,12 +28,14 @@ fn kept_x(sr: u16) -> u32
     (sr / 16 % 2 * 16) as u32
 }
 
+// The flags of a long that is moved.
 pub fn long_move_codes(v: u32, sr: u16) -> u32
     ensures { λ c. ⌜ c ≡ moveCodes Long v sr ⌝ }
 {
     kept_x(sr) + sign(v) * 8 + flag(v == 0) * 4
 }
 
+// The flags of a comparison of longs.
 pub fn long_compare_codes(sr: u16, s: u32, d: u32) -> u32
     ensures { λ c. ⌜ c ≡ compareCodes sr (subtracted Long s d false) ⌝ }
 {
@@ -42,6 +44,7 @@ pub fn long_compare_codes(sr: u16, s: u32, d: u32) -> u32
     kept_x(sr) + sign(r) * 8 + flag(r == 0) * 4 + v * 2 + flag(d < s)
 }
 
+// The flags of a difference of longs.
 pub fn long_difference_codes(s: u32, d: u32) -> u32
     ensures { λ c. ⌜ c ≡ sumCodes (subtracted Long s d false) ⌝ }
 {
@@ -50,6 +53,7 @@ pub fn long_difference_codes(s: u32, d: u32) -> u32
     sign(r) * 8 + flag(r == 0) * 4 + v * 2 + flag(d < s) * 17
 }
 
+// The flags of a sum of longs.
 pub fn long_sum_codes(s: u32, d: u32) -> u32
     ensures { λ c. ⌜ c ≡ sumCodes (added Long s d false) ⌝ }
 {
@@ -58,12 +62,14 @@ pub fn long_sum_codes(s: u32, d: u32) -> u32
     sign(r) * 8 + flag(r == 0) * 4 + v * 2 + flag(r < s) * 17
 }
 
+// The sum of two longs, wrapped.
 pub fn long_sum(s: u32, d: u32) -> u32
     ensures { λ r. ⌜ r ≡ added Long s d false .value ⌝ }
 {
     plus(s, d)
 }
 
+// The difference d - s of two longs, wrapped.
 pub fn long_difference(s: u32, d: u32) -> u32
     ensures { λ r. ⌜ r ≡ subtracted Long s d false .value ⌝ }
 {

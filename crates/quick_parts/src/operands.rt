@@ -22,6 +22,7 @@ ghost use Rattle.manual.specs.Registers.{addressOf};
 ghost use Rattle.manual.specs.Address.{operand as operandOf, source as sourceOf};
 ghost use Rattle.quick_parts.specs.Near.{located, spotted, Readable, asRead};
 
+// Where an operand of modes 2 to 5 is, or that it is far.
 // Of a mode and of register r, which holds a: as it is, or as another operand's move left it.
 pub fn spot(z: Size, mem: &[u8], pc: u32, mode: u32, r: u32, a: u32) -> Spot
     ensures { λ s. ⌜ ((g : List ℕ) → addressOf g r ≡ a → spotted s (located g (mapped (now (mem .entry))) pc (operandOf mode r) z) ≡ located g (mapped (now (mem .entry))) pc (operandOf mode r) z) ⌝ }
@@ -57,6 +58,7 @@ fn readable(z: Size, g: &[u32; 16], mem: &[u8], pc: u32, op: u32) -> Spot
     spot(z, mem, pc, op / 8 % 8, op % 8, a)
 }
 
+// What an operand of a near mode reads, or that it is far.
 // The operand that a word's bits 5 to 0 name.
 pub fn read(z: Size, g: &[u32; 16], mem: &[u8], pc: u32, op: u32) -> Reading
     ensures { λ r. ⌜ asRead r (sourceOf (now (g .entry)) (mapped (now (mem .entry))) pc op z) ≡ sourceOf (now (g .entry)) (mapped (now (mem .entry))) pc op z ⌝ }

@@ -4,6 +4,7 @@ use manual::Emac;
 ghost use mathlib.Core.Path.{_≡_};
 ghost use Rattle.manual.specs.Block.{fresh as freshOf};
 
+// The fresh state: all 0, MASK all ones.
 pub fn fresh() -> Cpu
     ensures { λ s. ⌜ s ≡ freshOf ⌝ }
 {

@@ -26,6 +26,7 @@ pub fn status(v: u32) -> u16
     (v / 0x8000 % 2 * 0x8000 + v / 0x1000 % 4 * 0x1000 + v / 0x100 % 8 * 0x100 + v % 32) as u16
 }
 
+// Whether a unit is admitted.
 pub fn emac_admitted(e: Emac) -> bool
     ensures { λ r. ⌜ r ≡ emacAdmitted e ⌝ }
 {
@@ -35,6 +36,7 @@ pub fn emac_admitted(e: Emac) -> bool
         & ((acc[0] < limit) & ((acc[1] < limit) & ((acc[2] < limit) & (acc[3] < limit))))
 }
 
+// Whether a state is admitted.
 pub fn admitted(cpu: Cpu) -> bool
     ensures { λ r. ⌜ r ≡ admittedOf cpu ⌝ }
 {
@@ -69,6 +71,7 @@ pub fn first_refusal(cpu: Cpu, mem: &[u8]) -> Reply
     }
 }
 
+// The state with a status register, the stack pointers swapped where S changes.
 pub fn with_status(cpu: Cpu, v: u32) -> Cpu
     ensures { λ s. ⌜ s ≡ setSr v cpu ⌝ }
 {
@@ -83,6 +86,7 @@ pub fn with_status(cpu: Cpu, v: u32) -> Cpu
     with_sr(cpu, sr)
 }
 
+// The status register in a handler: S set, T clear, the mask by the level.
 pub fn handling(level: Level, sr: u16) -> u16
     ensures { λ r. ⌜ r ≡ handlingOf level sr ⌝ }
 {

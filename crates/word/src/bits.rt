@@ -5,6 +5,7 @@ ghost use mathlib.Core.Path.{_≡_};
 ghost use Prim.Native.Nat.{_%_};
 ghost use Rattle.manual.specs.Bits.{logic as logicOf, bitOf, withBit, reversedBits, reversedBytes};
 
+// AND, OR or EOR of two longs.
 pub fn logic(l: Logic, a: u32, b: u32) -> u32
     ensures { λ r. ⌜ r ≡ logicOf l a b ⌝ }
 {
@@ -32,6 +33,7 @@ pub fn with_bit(n: u32, b: bool, v: u32) -> u32
     v - old + new
 }
 
+// The 32 bits in the other order.
 // The lowest bit of the rest goes to the highest place that is left.
 pub fn reversed_bits(v: u32) -> u32
     ensures { λ r. ⌜ r ≡ reversedBits 32 v ⌝ }
@@ -47,6 +49,7 @@ pub fn reversed_bits(v: u32) -> u32
     done
 }
 
+// The four bytes in the other order.
 pub fn reversed_bytes(v: u32) -> u32
     ensures { λ r. ⌜ r ≡ reversedBytes v ⌝ }
 {

@@ -5,6 +5,7 @@ use super::flags::same;
 ghost use mathlib.Core.Path.{_≡_};
 ghost use Rattle.manual.specs.Conditions.{condition as conditionOf};
 
+// Whether condition n of Bcc and Scc holds in a status register.
 pub fn condition(number: u32, sr: u16) -> bool
     ensures { λ r. ⌜ r ≡ conditionOf number sr ⌝ }
 {

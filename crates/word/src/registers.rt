@@ -7,6 +7,7 @@ ghost use mathlib.Core.Path.{_≡_};
 ghost use Prim.Native.Nat.{_+_, _-_, _*_, _/_, _%_, _^_, _≤_, _<_};
 ghost use Rattle.manual.specs.Registers.{dataOf, addressOf, general as generalOf, noWrite, writeData, writeAddress, writeGeneral, written as writtenOf, withParts, withRegisters, withAddress, withPc, withSr, withOther, withEmac, withStopped, coded as codedOf, applied as appliedOf};
 
+// Dn, n modulo 8.
 pub fn data(g: &[u32; 16], r: u32) -> u32
     ensures { λ v. ⌜ v ≡ dataOf (now (g .entry)) r ⌝ }
 {
@@ -14,6 +15,7 @@ pub fn data(g: &[u32; 16], r: u32) -> u32
     g[i]
 }
 
+// An, n modulo 8.
 pub fn address(g: &[u32; 16], r: u32) -> u32
     ensures { λ v. ⌜ v ≡ addressOf (now (g .entry)) r ⌝ }
 {
@@ -21,6 +23,7 @@ pub fn address(g: &[u32; 16], r: u32) -> u32
     g[i]
 }
 
+// Register n of D0 to A7, modulo 16.
 pub fn general(g: &[u32; 16], n: u32) -> u32
     ensures { λ v. ⌜ v ≡ generalOf (now (g .entry)) n ⌝ }
 {
@@ -28,12 +31,14 @@ pub fn general(g: &[u32; 16], n: u32) -> u32
     g[i]
 }
 
+// The write to no register.
 pub fn no_write() -> Write
     ensures { λ w. ⌜ w ≡ noWrite ⌝ }
 {
     Write { to: 16, value: 0 }
 }
 
+// The write of a long to Dn.
 pub fn write_data(r: u32, v: u32) -> Write
     ensures { λ w. ⌜ w ≡ writeData r v ⌝ }
 {
@@ -43,6 +48,7 @@ pub fn write_data(r: u32, v: u32) -> Write
     }
 }
 
+// The write of a long to An.
 pub fn write_address(r: u32, v: u32) -> Write
     ensures { λ w. ⌜ w ≡ writeAddress r v ⌝ }
 {
@@ -52,6 +58,7 @@ pub fn write_address(r: u32, v: u32) -> Write
     }
 }
 
+// The write of a long to register n of sixteen.
 pub fn write_general(n: u32, v: u32) -> Write
     ensures { λ w. ⌜ w ≡ writeGeneral n v ⌝ }
 {
@@ -61,6 +68,7 @@ pub fn write_general(n: u32, v: u32) -> Write
     }
 }
 
+// The registers after a write, in place.
 pub fn write(g: &mut [u32; 16], w: Write)
     ensures { λ _. ⌜ now (g .exit) ≡ writtenOf w (now (g .entry)) ⌝ }
 {
@@ -82,6 +90,7 @@ pub fn address_after(g: &[u32; 16], w: Write, r: u32) -> u32
     all[n as usize]
 }
 
+// The state with the registers, PC, status register and unit replaced.
 pub fn with_parts(cpu: Cpu, g: [u32; 16], pc: u32, sr: u16, emac: Emac) -> Cpu
     ensures { λ s. ⌜ s ≡ withParts g pc sr emac cpu ⌝ }
 {
@@ -93,6 +102,7 @@ pub fn with_parts(cpu: Cpu, g: [u32; 16], pc: u32, sr: u16, emac: Emac) -> Cpu
     next
 }
 
+// The state with the registers replaced.
 pub fn with_registers(cpu: Cpu, g: [u32; 16]) -> Cpu
     ensures { λ s. ⌜ s ≡ withRegisters g cpu ⌝ }
 {
@@ -101,6 +111,7 @@ pub fn with_registers(cpu: Cpu, g: [u32; 16]) -> Cpu
     next
 }
 
+// The state with An replaced.
 pub fn with_address(cpu: Cpu, n: u32, v: u32) -> Cpu
     ensures { λ s. ⌜ s ≡ withAddress n v cpu ⌝ }
 {
@@ -110,6 +121,7 @@ pub fn with_address(cpu: Cpu, n: u32, v: u32) -> Cpu
     next
 }
 
+// The state with the PC replaced.
 pub fn with_pc(cpu: Cpu, pc: u32) -> Cpu
     ensures { λ s. ⌜ s ≡ withPc pc cpu ⌝ }
 {
@@ -118,6 +130,7 @@ pub fn with_pc(cpu: Cpu, pc: u32) -> Cpu
     next
 }
 
+// The state with the status register replaced, and no swap.
 pub fn with_sr(cpu: Cpu, sr: u16) -> Cpu
     ensures { λ s. ⌜ s ≡ withSr sr cpu ⌝ }
 {
@@ -126,6 +139,7 @@ pub fn with_sr(cpu: Cpu, sr: u16) -> Cpu
     next
 }
 
+// The state with the other stack pointer replaced.
 pub fn with_other(cpu: Cpu, v: u32) -> Cpu
     ensures { λ s. ⌜ s ≡ withOther v cpu ⌝ }
 {
@@ -134,6 +148,7 @@ pub fn with_other(cpu: Cpu, v: u32) -> Cpu
     next
 }
 
+// The state with the unit replaced.
 pub fn with_emac(cpu: Cpu, emac: Emac) -> Cpu
     ensures { λ s. ⌜ s ≡ withEmac emac cpu ⌝ }
 {
@@ -142,6 +157,7 @@ pub fn with_emac(cpu: Cpu, emac: Emac) -> Cpu
     next
 }
 
+// The state stopped, or not.
 pub fn with_stopped(cpu: Cpu, stopped: bool) -> Cpu
     ensures { λ s. ⌜ s ≡ withStopped stopped cpu ⌝ }
 {
@@ -150,12 +166,14 @@ pub fn with_stopped(cpu: Cpu, stopped: bool) -> Cpu
     next
 }
 
+// A status register with its flags replaced.
 pub fn coded(sr: u16, c: u32) -> u16
     ensures { λ r. ⌜ r ≡ codedOf sr c ⌝ }
 {
     sr / 32 * 32 + (c % 32) as u16
 }
 
+// The state after a change's two writes, its PC and its flags.
 pub fn applied(cpu: Cpu, change: Change) -> Cpu
     ensures { λ s. ⌜ s ≡ appliedOf cpu change ⌝ }
 {

@@ -3,6 +3,7 @@ use manual::Size;
 ghost use mathlib.Core.Path.{_≡_};
 ghost use Rattle.manual.specs.Word.{bytes as bytesOf, half as halfOf, numbers as numbersOf, sizeOf, cut as cutOf, merged as mergedOf, plus as plusOf, minus as minusOf, signExtended};
 
+// The bytes of a size.
 pub fn bytes(z: Size) -> u32
     ensures { λ r. ⌜ r ≡ bytesOf z ⌝ }
 {
@@ -33,6 +34,7 @@ pub(crate) fn numbers(z: Size) -> u64
     }
 }
 
+// The size that two bits name.
 pub fn size_of(n: u32) -> Size
     ensures { λ r. ⌜ r ≡ sizeOf n ⌝ }
 {
@@ -43,6 +45,7 @@ pub fn size_of(n: u32) -> Size
     }
 }
 
+// The low part of a long, of a size.
 pub fn cut(z: Size, v: u32) -> u32
     ensures { λ r. ⌜ r ≡ cutOf z v ⌝ }
 {
@@ -53,6 +56,7 @@ pub fn cut(z: Size, v: u32) -> u32
     }
 }
 
+// A long whose low part is replaced by another's.
 pub fn merged(z: Size, old: u32, v: u32) -> u32
     ensures { λ r. ⌜ r ≡ mergedOf z old v ⌝ }
 {
@@ -63,18 +67,21 @@ pub fn merged(z: Size, old: u32, v: u32) -> u32
     }
 }
 
+// A sum of longs, wrapped.
 pub fn plus(a: u32, b: u32) -> u32
     ensures { λ r. ⌜ r ≡ plusOf a b ⌝ }
 {
     std::num::wrapping_add_u32(a, b)
 }
 
+// A difference of longs, wrapped.
 pub fn minus(a: u32, b: u32) -> u32
     ensures { λ r. ⌜ r ≡ minusOf a b ⌝ }
 {
     std::num::wrapping_sub_u32(a, b)
 }
 
+// The low part of a long, as a signed long.
 pub fn sign_extended(z: Size, v: u32) -> u32
     ensures { λ r. ⌜ r ≡ signExtended z v ⌝ }
 {
