@@ -2,9 +2,9 @@
 use super::Loaded;
 use manual::Cpu;
 use manual::Reply;
-use manual::block::HEAD_BYTES;
-use manual::block::LENGTH_AT;
-use manual::block::VERSION_AT;
+use manual::block_places::HEAD_BYTES;
+use manual::block_places::LENGTH_AT;
+use manual::block_places::VERSION_AT;
 use memory::long_at;
 use state::fresh::fresh;
 use state::replies::is_done;

@@ -1,5 +1,5 @@
 // The machine's data: what the definition in specs/ speaks of, and what the crates above pass around.
-pub mod block;
+pub mod block_places;
 
 // The size of an operand.
 pub enum Size {
