@@ -9,7 +9,7 @@ use manual::Answer;
 use manual::Cpu;
 use manual::Emac;
 use manual::Reply;
-use manual::block;
+use manual::block_places;
 use state::fresh::fresh;
 use state::status::admitted;
 use word::flags::both;
@@ -24,7 +24,7 @@ fn registers_at(bytes: &[u8]) -> [u32; 16]
     let mut g: [u32; 16] = [0; 16];
     let mut i: usize = 0;
     while i < 16 {
-        g[i] = long_at(bytes, block::REGISTERS_AT + i * 4);
+        g[i] = long_at(bytes, block_places::REGISTERS_AT + i * 4);
         i += 1;
     }
     g
@@ -34,13 +34,13 @@ fn emac_at(bytes: &[u8]) -> Emac
     requires { ⌜ length (now bytes) ≡ blockBytes ⌝ }
     ensures { λ r. ⌜ r ≡ emacAt (now (bytes .entry)) ⌝ }
 {
-    let macsr = long_at(bytes, block::MACSR_AT);
-    let mask = long_at(bytes, block::MASK_AT);
+    let macsr = long_at(bytes, block_places::MACSR_AT);
+    let mask = long_at(bytes, block_places::MASK_AT);
     let acc = [
-        read_number(bytes, block::ACC0_AT, 8) % 0x1_0000_0000_0000,
-        read_number(bytes, block::ACC1_AT, 8) % 0x1_0000_0000_0000,
-        read_number(bytes, block::ACC2_AT, 8) % 0x1_0000_0000_0000,
-        read_number(bytes, block::ACC3_AT, 8) % 0x1_0000_0000_0000,
+        read_number(bytes, block_places::ACC0_AT, 8) % 0x1_0000_0000_0000,
+        read_number(bytes, block_places::ACC1_AT, 8) % 0x1_0000_0000_0000,
+        read_number(bytes, block_places::ACC2_AT, 8) % 0x1_0000_0000_0000,
+        read_number(bytes, block_places::ACC3_AT, 8) % 0x1_0000_0000_0000,
     ];
     Emac {
         macsr: macsr,
@@ -54,13 +54,13 @@ fn state_at(bytes: &[u8]) -> Cpu
     ensures { λ r. ⌜ r ≡ stateAt (now (bytes .entry)) ⌝ }
 {
     let r = registers_at(bytes);
-    let pc = long_at(bytes, block::PC_AT);
-    let sr = word_at(bytes, block::SR_AT);
-    let other = long_at(bytes, block::OTHER_AT);
-    let vbr = long_at(bytes, block::VBR_AT);
-    let cacr = long_at(bytes, block::CACR_AT);
+    let pc = long_at(bytes, block_places::PC_AT);
+    let sr = word_at(bytes, block_places::SR_AT);
+    let other = long_at(bytes, block_places::OTHER_AT);
+    let vbr = long_at(bytes, block_places::VBR_AT);
+    let cacr = long_at(bytes, block_places::CACR_AT);
     let unit = emac_at(bytes);
-    let last = byte_at(bytes, block::STOPPED_AT);
+    let last = byte_at(bytes, block_places::STOPPED_AT);
     Cpu {
         r: r,
         pc: pc,
@@ -77,12 +77,12 @@ fn numbers_fit(bytes: &[u8]) -> bool
     requires { ⌜ length (now bytes) ≡ blockBytes ⌝ }
     ensures { λ r. ⌜ r ≡ numbersFit (now (bytes .entry)) ⌝ }
 {
-    let k = mode_of(long_at(bytes, block::MACSR_AT));
-    let a = block_in_range(k, read_number(bytes, block::ACC0_AT, 8));
-    let b = block_in_range(k, read_number(bytes, block::ACC1_AT, 8));
-    let c = block_in_range(k, read_number(bytes, block::ACC2_AT, 8));
-    let d = block_in_range(k, read_number(bytes, block::ACC3_AT, 8));
-    let last = byte_at(bytes, block::STOPPED_AT);
+    let k = mode_of(long_at(bytes, block_places::MACSR_AT));
+    let a = block_in_range(k, read_number(bytes, block_places::ACC0_AT, 8));
+    let b = block_in_range(k, read_number(bytes, block_places::ACC1_AT, 8));
+    let c = block_in_range(k, read_number(bytes, block_places::ACC2_AT, 8));
+    let d = block_in_range(k, read_number(bytes, block_places::ACC3_AT, 8));
+    let last = byte_at(bytes, block_places::STOPPED_AT);
     a & (b & (c & (d & (last < 2))))
 }
 
@@ -100,16 +100,16 @@ fn not_read(reply: Reply) -> Answer
 pub fn read_block(bytes: &[u8]) -> Answer
     ensures { λ r. ⌜ r ≡ readBlock (now (bytes .entry)) ⌝ }
 {
-    if bytes.len() < block::HEAD_BYTES {
+    if bytes.len() < block_places::HEAD_BYTES {
         return not_read(Reply::WrongLength);
     }
-    if byte_at(bytes, block::VERSION_AT) != 1 {
+    if byte_at(bytes, block_places::VERSION_AT) != 1 {
         return not_read(Reply::WrongVersion);
     }
-    if bytes.len() != block::BLOCK_BYTES {
+    if bytes.len() != block_places::BLOCK_BYTES {
         return not_read(Reply::WrongLength);
     }
-    if long_at(bytes, block::LENGTH_AT) != block::BLOCK_REST {
+    if long_at(bytes, block_places::LENGTH_AT) != block_places::BLOCK_REST {
         return not_read(Reply::WrongLength);
     }
     let s = state_at(bytes);

@@ -5,7 +5,7 @@ use emac::number::block_number;
 use manual::Cpu;
 use manual::Emac;
 use manual::Reply;
-use manual::block;
+use manual::block_places;
 use state::status::admitted;
 use word::flags::bit;
 ghost use mathlib.Core.Path.{_≡_};
@@ -42,12 +42,12 @@ fn write_head(bytes: &mut [u8])
     ensures { λ _. ⌜ now (bytes .exit) ≡ headed ⌝ }
 {
     let mut i: usize = 0;
-    while i < block::BLOCK_BYTES {
+    while i < block_places::BLOCK_BYTES {
         bytes[i] = 0;
         i += 1;
     }
-    write_number(bytes, block::VERSION_AT, 1, 1);
-    write_long(bytes, block::LENGTH_AT, block::BLOCK_REST);
+    write_number(bytes, block_places::VERSION_AT, 1, 1);
+    write_long(bytes, block_places::LENGTH_AT, block_places::BLOCK_REST);
 }
 
 fn write_registers(bytes: &mut [u8], g: &[u32; 16])
@@ -56,7 +56,7 @@ fn write_registers(bytes: &mut [u8], g: &[u32; 16])
 {
     let mut i: usize = 0;
     while i < 16 {
-        write_long(bytes, block::REGISTERS_AT + i * 4, g[i]);
+        write_long(bytes, block_places::REGISTERS_AT + i * 4, g[i]);
         i += 1;
     }
 }
@@ -65,11 +65,11 @@ fn write_controls(cpu: Cpu, bytes: &mut [u8])
     requires { ⌜ length (now bytes) ≡ blockBytes ⌝ }
     ensures { λ _. ⌜ now (bytes .exit) ≡ withControls cpu (now (bytes .entry)) ⌝ }
 {
-    write_long(bytes, block::PC_AT, cpu.pc);
-    write_number(bytes, block::SR_AT, 2, cpu.sr as u64);
-    write_long(bytes, block::OTHER_AT, cpu.other);
-    write_long(bytes, block::VBR_AT, cpu.vbr);
-    write_long(bytes, block::CACR_AT, cpu.cacr);
+    write_long(bytes, block_places::PC_AT, cpu.pc);
+    write_number(bytes, block_places::SR_AT, 2, cpu.sr as u64);
+    write_long(bytes, block_places::OTHER_AT, cpu.other);
+    write_long(bytes, block_places::VBR_AT, cpu.vbr);
+    write_long(bytes, block_places::CACR_AT, cpu.cacr);
 }
 
 fn number_of(e: Emac, i: u32) -> u64
@@ -82,18 +82,18 @@ fn write_accs(bytes: &mut [u8], e: Emac)
     requires { ⌜ length (now bytes) ≡ blockBytes ⌝ }
     ensures { λ _. ⌜ now (bytes .exit) ≡ withAccs e (now (bytes .entry)) ⌝ }
 {
-    write_number(bytes, block::ACC0_AT, 8, number_of(e, 0));
-    write_number(bytes, block::ACC1_AT, 8, number_of(e, 1));
-    write_number(bytes, block::ACC2_AT, 8, number_of(e, 2));
-    write_number(bytes, block::ACC3_AT, 8, number_of(e, 3));
+    write_number(bytes, block_places::ACC0_AT, 8, number_of(e, 0));
+    write_number(bytes, block_places::ACC1_AT, 8, number_of(e, 1));
+    write_number(bytes, block_places::ACC2_AT, 8, number_of(e, 2));
+    write_number(bytes, block_places::ACC3_AT, 8, number_of(e, 3));
 }
 
 fn write_unit(bytes: &mut [u8], e: Emac)
     requires { ⌜ length (now bytes) ≡ blockBytes ⌝ }
     ensures { λ _. ⌜ now (bytes .exit) ≡ withUnit e (now (bytes .entry)) ⌝ }
 {
-    write_long(bytes, block::MACSR_AT, e.macsr);
-    write_long(bytes, block::MASK_AT, e.mask);
+    write_long(bytes, block_places::MACSR_AT, e.macsr);
+    write_long(bytes, block_places::MASK_AT, e.mask);
     write_accs(bytes, e);
 }
 
@@ -108,14 +108,14 @@ fn write_state(cpu: Cpu, bytes: &mut [u8])
     write_registers(bytes, &g);
     write_controls(cpu, bytes);
     write_unit(bytes, e);
-    write_number(bytes, block::STOPPED_AT, 1, last as u64);
+    write_number(bytes, block_places::STOPPED_AT, 1, last as u64);
 }
 
 // The state written as a block; refused with 9 where there are not 128 bytes for it.
 pub fn store_block(cpu: Cpu, bytes: &mut [u8]) -> Reply
     ensures { λ r. ⌜ stored r (now (bytes .exit)) ≡ storeBlock cpu (now (bytes .entry)) ⌝ }
 {
-    if bytes.len() != block::BLOCK_BYTES {
+    if bytes.len() != block_places::BLOCK_BYTES {
         return Reply::WrongLength;
     }
     if !admitted(cpu) {
