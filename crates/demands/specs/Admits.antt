@@ -26,7 +26,7 @@ use Rattle.manual.specs.declared.Change.{Change}
 use Rattle.manual.specs.declared.Mode.{Mode}
 use Rattle.manual.specs.Word.{minus, signedAt, inHalf}
 use Rattle.manual.specs.Registers.{addressOf, withAddress, applied}
-use Rattle.manual.specs.Memory.{Memory, valueAt, load, storing, accessMany}
+use Rattle.manual.specs.Memory.{Storage, Memory, valueAt, load, storing, accessMany}
 use Rattle.manual.specs.Emac.{modeOf, accOf, inRange, inWhole, unsigned}
 use Rattle.manual.specs.EmacCalls.{accSetCall, setAccPhysCall, setMacsrCall}
 use Rattle.manual.specs.Reply.{Outcome, unchanged, isDone}
@@ -72,7 +72,7 @@ pub record Admits : Type 0 where
   -- a read of a block or of a file is given no state, and a refused one returns the fresh one
   pub fresh-state : admitted fresh ≡ true
   pub by-read-block : (b : List ℕ) → admitted (readBlock b .cpu) ≡ true
-  pub by-load-image : (f m : List ℕ) → admitted (loadImage f m .cpu) ≡ true
+  pub by-load-image : (f : List ℕ) (m : Storage) → admitted (loadImage f m .cpu) ≡ true
 
 -- ---- the proofs
 
@@ -225,7 +225,7 @@ image-admitted f = by (ltb (length f) 5) (eqb (valueAt f 0 1) 1) (leb 14 l && (l
     by false true false w e = absurd (false≢true e)
     by false false z w e = absurd (false≢true e)
 
-load-admitted : (f m : List ℕ) → admitted (loadImage f m .cpu) ≡ true
+load-admitted : (f : List ℕ) (m : Storage) → admitted (loadImage f m .cpu) ≡ true
 unfolding loadImage
 load-admitted f m = by (eqb (length m) imageMemory) (isDone (imageReply f)) refl
   where

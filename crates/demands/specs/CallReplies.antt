@@ -12,7 +12,7 @@ use Rattle.manual.specs.declared.Emac.{Emac}
 use Rattle.manual.specs.declared.Reply.the-variants.{Done, NotAdmitted, OutOfRange, WrongVersion, WrongLength}
 use Rattle.manual.specs.declared.Answer.{Answer}
 use Rattle.manual.specs.declared.Told.{Told}
-use Rattle.manual.specs.Memory.{valueAt}
+use Rattle.manual.specs.Memory.{Storage, valueAt}
 use Rattle.manual.specs.Reply.{numberOf, isDone}
 use Rattle.manual.specs.Admitted.{admitted}
 use Rattle.manual.specs.Exceptions.{setSr, setSrCall, told}
@@ -270,7 +270,7 @@ module _ (f : List ℕ) where
   image-of = laws.same-of (0 ∷ 2 ∷ 8 ∷ 9 ∷ []) image-number (four-of (ltb (length f) 5) (eqb (valueAt f 0 1) 1) matches (admitted (imageState f)))
 
   -- the file is read into a memory
-  module _ (m : List ℕ) where
+  module _ (m : Storage) where
     load-number : numberOf (loadImage f m .reply) ≡ pick (eqb (length m) imageMemory) (numberOf (imageReply f)) 9
     unfolding loadImage
     load-number = by (eqb (length m) imageMemory) (isDone (imageReply f))

@@ -13,6 +13,7 @@ use Rattle.manual.specs.Exceptions.{exception, interrupt, rte, push32, pop32, s
 use Rattle.manual.specs.EmacCalls.{accGetCall, accSetCall, accPhysCall, setAccPhysCall, setMacsrCall}
 use Rattle.manual.specs.Block.{fresh, readBlock, storeBlock}
 use Rattle.manual.specs.Image.{loadImage, runText, answerLine, textOf}
+use Rattle.manual.specs.Memory.{Storage}
 use Rattle.instructions.specs.Step.{step}
 use Rattle.instructions.specs.Run.{run}
 use Rattle.emac_lent.specs.UnitCalls as unit
@@ -93,7 +94,7 @@ read-block-determined b = determined (readBlock b)
 pub store-block-determined : (s : Cpu) (b : List ℕ) → Determined (storeBlock s b)
 store-block-determined s b = determined (storeBlock s b)
 
-pub read-image-determined : (f m : List ℕ) → Determined (loadImage f m)
+pub read-image-determined : (f : List ℕ) (m : Storage) → Determined (loadImage f m)
 read-image-determined f m = determined (loadImage f m)
 
 pub run-text-determined : (n : Reply) (count : ℕ) (s : Cpu) → Determined (textOf (runText n count s))

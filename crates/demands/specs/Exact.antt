@@ -226,9 +226,9 @@ pub record Reply8And9 : Type 0 where
       (numberOf (imageReply f) ≡ 2)
       ↔ ((5 ≤ length f) × ((valueAt f 0 1 ≡ 1) × (((14 ≤ l) × ((l ≤ 49166) × (length f ≡ 5 + l))) × (admitted (imageState f) ≡ false))))
   -- and it is read into a memory of 49,152 bytes
-  pub load-image-9 : (f m : List ℕ) → (numberOf (loadImage f m .reply) ≡ 9) ↔ ((length m ≡ 49152 → ⊥) ⊎ ((length m ≡ 49152) × (numberOf (imageReply f) ≡ 9)))
-  pub load-image-8 : (f m : List ℕ) → (numberOf (loadImage f m .reply) ≡ 8) ↔ ((length m ≡ 49152) × (numberOf (imageReply f) ≡ 8))
-  pub load-image-2 : (f m : List ℕ) → (numberOf (loadImage f m .reply) ≡ 2) ↔ ((length m ≡ 49152) × (numberOf (imageReply f) ≡ 2))
+  pub load-image-9 : (f : List ℕ) (m : Storage) → (numberOf (loadImage f m .reply) ≡ 9) ↔ ((length m ≡ 49152 → ⊥) ⊎ ((length m ≡ 49152) × (numberOf (imageReply f) ≡ 9)))
+  pub load-image-8 : (f : List ℕ) (m : Storage) → (numberOf (loadImage f m .reply) ≡ 8) ↔ ((length m ≡ 49152) × (numberOf (imageReply f) ≡ 8))
+  pub load-image-2 : (f : List ℕ) (m : Storage) → (numberOf (loadImage f m .reply) ≡ 2) ↔ ((length m ≡ 49152) × (numberOf (imageReply f) ≡ 2))
 
 -- a call gives no other reply than these, so 0 exactly where it gives none of the others
 pub record NoOthers : Type 0 where
@@ -249,4 +249,4 @@ pub record NoOthers : Type 0 where
   pub set-macsr-of : (s : Cpu) (v : ℕ) → OneOf (0 ∷ 2 ∷ []) (numberOf (setMacsrCall s v .reply))
   pub read-block-of : (b : List ℕ) → OneOf (0 ∷ 2 ∷ 8 ∷ 9 ∷ []) (numberOf (readBlock b .reply))
   pub store-block-of : (s : Cpu) (b : List ℕ) → OneOf (0 ∷ 2 ∷ 9 ∷ []) (numberOf (storeBlock s b .reply))
-  pub load-image-of : (f m : List ℕ) → OneOf (0 ∷ 2 ∷ 8 ∷ 9 ∷ []) (numberOf (loadImage f m .reply))
+  pub load-image-of : (f : List ℕ) (m : Storage) → OneOf (0 ∷ 2 ∷ 8 ∷ 9 ∷ []) (numberOf (loadImage f m .reply))

@@ -65,7 +65,7 @@ pub record Refusals : Type 0 where
   pub of-set-macsr : (s : Cpu) (v : ℕ) → NotZero (setMacsrCall s v .reply) → setMacsrCall s v .cpu ≡ s
   pub of-read-block : (b : List ℕ) → NotZero (readBlock b .reply) → readBlock b .cpu ≡ fresh
   pub of-store-block : (s : Cpu) (b : List ℕ) → NotZero (storeBlock s b .reply) → storeBlock s b .bytes ≡ b
-  pub of-load-image : (f m : List ℕ) → NotZero (loadImage f m .reply) → ((loadImage f m .cpu ≡ fresh) × (loadImage f m .storage ≡ m)) × (loadImage f m .budget ≡ 0)
+  pub of-load-image : (f : List ℕ) (m : Storage) → NotZero (loadImage f m .reply) → ((loadImage f m .cpu ≡ fresh) × (loadImage f m .storage ≡ m)) × (loadImage f m .budget ≡ 0)
 
 -- ---- the proofs: each is a tree of tests, whose leaves are done or unchanged
 
@@ -299,7 +299,7 @@ store-kept : (s : Cpu) (b : List ℕ) → NotZero (storeBlock s b .reply) → st
 unfolding storeBlock
 store-kept s b h = store-by (eqb (length b) 128) (admitted s) (blockOf s) b h
 
-load-kept : (f m : List ℕ) → NotZero (loadImage f m .reply) → ((loadImage f m .cpu ≡ fresh) × (loadImage f m .storage ≡ m)) × (loadImage f m .budget ≡ 0)
+load-kept : (f : List ℕ) (m : Storage) → NotZero (loadImage f m .reply) → ((loadImage f m .cpu ≡ fresh) × (loadImage f m .storage ≡ m)) × (loadImage f m .budget ≡ 0)
 unfolding loadImage
 load-kept f m = by (eqb (length m) imageMemory) (imageReply f)
   where

@@ -11,7 +11,7 @@ use lib.Dec.{leb, eqb, ltb}
 use lib.ListN.{length, getD, drop, set, replicate, length-append, length-drop, length-replicate}
 use lib.Seq.{getD-drop, getD-set-same, getD-set-other, ext-getD}
 use Rattle.manual.specs.declared.Reply.the-variants.{Done, NotAdmitted, WrongVersion, WrongLength}
-use Rattle.manual.specs.Memory.{valueAt}
+use Rattle.manual.specs.Memory.{Storage, valueAt}
 use Rattle.manual.specs.Reply.{isDone}
 use Rattle.manual.specs.Admitted.{admitted}
 use Rattle.manual.specs.Block.{versionAt, lengthAt, headBytes}
@@ -60,7 +60,7 @@ padded-at (x ∷ l) n zero = refl
 padded-at (x ∷ l) n (suc k) = padded-at l n k
 
 -- one more byte
-pub filled-next : (f m : List ℕ) (i v : ℕ) → i < length m → v ≡ getD f (programAt + i) 0 → ((k : ℕ) → k < i → getD m k 0 ≡ getD f (programAt + k) 0)
+pub filled-next : (f : List ℕ) (m : Storage) (i v : ℕ) → i < length m → v ≡ getD f (programAt + i) 0 → ((k : ℕ) → k < i → getD m k 0 ≡ getD f (programAt + k) 0)
     → (k : ℕ) → k < i + 1 → getD (set m i v) k 0 ≡ getD f (programAt + k) 0
 filled-next f m i v h e each =
     below-more _ _
@@ -68,7 +68,7 @@ filled-next f m i v h e each =
     (getD-set-same m i v 0 h ∙ e)
 
 -- memory is the file's bytes as soon as each byte is
-pub all-filled : (f m : List ℕ) → programAt ≤ length f → length f ≤ programAt + imageMemory → length m ≡ imageMemory
+pub all-filled : (f : List ℕ) (m : Storage) → programAt ≤ length f → length f ≤ programAt + imageMemory → length m ≡ imageMemory
     → ((k : ℕ) → k < imageMemory → getD m k 0 ≡ getD f (programAt + k) 0) → m ≡ imageBytes f
 unfolding imageBytes
 all-filled f m low high size each =

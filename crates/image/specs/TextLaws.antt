@@ -9,6 +9,7 @@ use lib.Seq.{length-take-le}
 use Rattle.manual.specs.Reply.{isDone}
 use Rattle.manual.specs.Lent.{lent}
 use Rattle.manual.specs.Image.{Image, Printed, printed, loadImage, answerLine, textOf}
+use Rattle.manual.specs.Memory.{Storage}
 use Rattle.instructions.specs.Run.{RunOutcome, run}
 use Rattle.image.specs.ImageRun.{ImageRan, imageRan, imageRun, ranText}
 
@@ -20,16 +21,16 @@ text-in x b n e =
     let count : n ≡ length x = ap (λ (p : Printed). p .len) e in
     omega (arith, bytes, length-append x zeros, count)
 
-either-in : (d : Bool) (o : RunOutcome) (x b m m′ : List ℕ) (n : ℕ) → imageRan (printed b n) m′ ≡ cond d (ranText o) (imageRan (textOf x) m) → n ≤ length b
+either-in : (d : Bool) (o : RunOutcome) (x b : List ℕ) (m m′ : Storage) (n : ℕ) → imageRan (printed b n) m′ ≡ cond d (ranText o) (imageRan (textOf x) m) → n ≤ length b
 unfolding ranText
 either-in true o x b m m′ n e = text-in _ b n (ap (λ (r : ImageRan). r .text) e)
 either-in false o x b m m′ n e = text-in x b n (ap (λ (r : ImageRan). r .text) e)
 
-pub text-inside : (f m m′ b : List ℕ) (n : ℕ) → imageRan (printed b n) m′ ≡ imageRun f m → n ≤ length b
+pub text-inside : (f : List ℕ) (m m′ : Storage) (b : List ℕ) (n : ℕ) → imageRan (printed b n) m′ ≡ imageRun f m → n ≤ length b
 unfolding imageRun
 text-inside f m m′ b n e =
     let i : Image = loadImage f m in
     either-in (isDone (i .reply)) (run (i .budget) (i .cpu) (lent (i .storage))) (answerLine (i .reply)) b (i .storage) m′ n e
 
-pub text-counted : (f m m′ b : List ℕ) (n : ℕ) → imageRan (printed b n) m′ ≡ imageRun f m → n ≡ length (take n b)
+pub text-counted : (f : List ℕ) (m m′ : Storage) (b : List ℕ) (n : ℕ) → imageRan (printed b n) m′ ≡ imageRun f m → n ≡ length (take n b)
 text-counted f m m′ b n e = sym (length-take-le n b (text-inside f m m′ b n e))

@@ -9,7 +9,7 @@ use Rattle.manual.specs.declared.Source.{Source}
 use Rattle.manual.specs.declared.Write.{Write}
 use Rattle.manual.specs.declared.Change.{Change}
 use Rattle.manual.specs.Word.{plus}
-use Rattle.manual.specs.Memory.{load}
+use Rattle.manual.specs.Memory.{Memory, load}
 use Rattle.manual.specs.Address.{source}
 use Rattle.manual.specs.Change.{refused, reading}
 use Rattle.instructions.specs.Line4.{withWord, multiplyBy, multiply, divideBy, divide}
@@ -24,7 +24,7 @@ abbrev pub wordBy : Got → Source → WordAndLong
 wordBy (Value w) from = longBy w from (from .got)
 wordBy (NoValue x) from = Fault x
 
-unfoldable pub wordAndLong : List ℕ → ℕ → List ℕ → ℕ → WordAndLong
+unfoldable pub wordAndLong : List ℕ → ℕ → Memory → ℕ → WordAndLong
 wordAndLong g at m op =
     let pc : ℕ = plus at 2 in
     wordBy (load m pc Word) (source g m (plus pc 2) op Long)
@@ -43,7 +43,7 @@ by-word : (got : Got) (from : Source) (f : ℕ → Source → ℕ → Change)
 by-word (Value w) from f = by-long w (from .got) (from .next) (from .moved) f
 by-word (NoValue x) from f = refl
 
-module _ (g : List ℕ) (at sr : ℕ) (m : List ℕ) (op : ℕ) where
+module _ (g : List ℕ) (at sr : ℕ) (m : Memory) (op : ℕ) where
   -- what goes on with the word and the operand does so after they are read
   goes : (f : ℕ → Source → ℕ → Change) → withWord g at m op f ≡ after (wordAndLong g at m op) f
   unfolding wordAndLong

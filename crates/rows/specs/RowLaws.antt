@@ -12,6 +12,7 @@ use lib.Bits.{bitAnd, and-shr, and-mask}
 use lib.Dec.{T, eqb, ltb, leb, eqb→eq, ltb→lt, leb→le}
 use lib.ListN.{getD, drop, List·getD-eq-default}
 use Rattle.manual.specs.declared.Emac.{Emac}
+use Rattle.manual.specs.Memory.{Memory}
 use Rattle.instructions.specs.Rows.{values, masks, value, mask, fixedBits, rowCount, firstRow, Fits, IsRow, firstFit, rowOf}
 use Rattle.instructions.specs.Step.{instruction, ofRow}
 use Rattle.rows.specs.TableLaws.{allBelow, keep, below, allApart, nested, found, unfit, someWhole, some-later, some-fits}
@@ -156,7 +157,7 @@ row-line op =
     ap (λ (r : ℕ). value r / 0x1000) (sym (rowOf-mod op)) ∙ in-line w (rowOf w) h (rowOf-lt w) (rowOf-fits w h) .0 ∙ q
 
 -- so what a word changes is what the instruction of its row changes
-pub of-row : (g : List ℕ) (at sr other : ℕ) (e : Emac) (m : List ℕ) (op : ℕ)
+pub of-row : (g : List ℕ) (at sr other : ℕ) (e : Emac) (m : Memory) (op : ℕ)
     → ofRow (rowOf op) g at sr other e m op ≡ instruction g at sr other e m op
 unfolding ofRow instruction
 of-row g at sr other e m op = rw (row-line op)
