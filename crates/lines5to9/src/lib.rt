@@ -2,5 +2,4 @@ pub mod line5;
 pub mod line6;
 pub mod line7;
 pub mod line9;
-pub mod lined;
 pub mod sums;

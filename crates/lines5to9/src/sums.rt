@@ -140,7 +140,7 @@ fn place_in(first: u8, row: u8) -> u8
 }
 
 // Lines 9 and D by their rows: with X, three that are illegal, to An, to Dn, to memory.
-pub(crate) fn by_row(
+pub fn by_row(
     first: u8,
     add: bool,
     row: u8,

@@ -1,4 +1,5 @@
 pub mod lineb;
 pub mod linec;
+pub mod lined;
 pub mod linee;
 pub mod linef;

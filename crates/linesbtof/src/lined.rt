@@ -1,5 +1,5 @@
 // Line D: ADD, ADDA and ADDX.
-use super::sums::by_row;
+use lines5to9::sums::by_row;
 use manual::Change;
 ghost use mathlib.Core.Path.{_≡_};
 ghost use Rattle.manual.specs.Memory.{mapped};
