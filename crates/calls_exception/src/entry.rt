@@ -1,7 +1,7 @@
 // The calls that enter an exception and return from it.
 use exceptions::entry::entered;
-use exceptions::entry::left;
 use exceptions::entry::refusal;
+use exceptions::entry::returned;
 use manual::Cpu;
 use manual::Level;
 use manual::Reply;
@@ -68,5 +68,5 @@ pub fn rte(cpu: Cpu, mem: &[u8]) -> Stepped
     if !is_done(first) {
         return refusal(cpu, first);
     }
-    left(cpu, cpu, mem)
+    returned(cpu, cpu, mem)
 }

@@ -25,14 +25,14 @@ use Rattle.manual.specs.declared.Reached.the-variants.{At, NoAddress}
 use Rattle.manual.specs.declared.Level.{Level}
 use Rattle.manual.specs.declared.Level.the-variants.{Kept}
 use Rattle.manual.specs.declared.Action.{Action}
-use Rattle.manual.specs.declared.Action.the-variants.{Nothing, Store, StoreMany, LoadMany, Enter, Return, Status, Stop, PushStatus, Halt, Other, Accumulate, SetAcc, SetExt, SetMacsr, SetMask, CopyAcc, ClearAcc, Refuse}
+use Rattle.manual.specs.declared.Action.the-variants.{Nothing, Store, StoreMany, LoadMany, Enter, Return, Status, Stop, PushStatus, Halt, SetOther, Accumulate, SetAcc, SetExt, SetMacsr, SetMask, CopyAcc, ClearAcc, Refuse}
 use Rattle.manual.specs.declared.Change.{Change}
 use Rattle.manual.specs.Word.{bytes, plus, minus, sizeOf, signExtended}
 use Rattle.manual.specs.Registers.{addressOf, applied}
 use Rattle.manual.specs.Memory.{Memory, access, taken, numberAt}
 use Rattle.manual.specs.Address.{operand, extension, locate, control}
 use Rattle.manual.specs.Differences.{anySize, vectorPlace}
-use Rattle.manual.specs.Exceptions.{setSr, handling, pcPlace, framePlace}
+use Rattle.manual.specs.Exceptions.{setSr, handlerSr, pcPlace, framePlace}
 use Rattle.instructions.specs.Rows.{firstRow, rowOf, placeIn}
 use Rattle.instructions.specs.Line6.{displacementBytes}
 use Rattle.instructions.specs.LineA.{loadAddress}
@@ -333,7 +333,7 @@ manyLongs (suc left) regs a =
 -- an entry from the registers s: two longs are stored, sp being A7 with the handler's status register, and the vector is read
 abbrev pub entryAt : Cpu → Level → ℕ → List Wanted
 entryAt s level vector =
-    let sp : ℕ = addressOf (setSr (handling level (s .sr)) s .r) 7 in
+    let sp : ℕ = addressOf (setSr (handlerSr level (s .sr)) s .r) 7 in
     wanted (pcPlace sp) 4 ∷ wanted (framePlace sp) 4 ∷ wanted (vectorPlace (s .vbr) vector) 4 ∷ []
 
 -- a return reads two longs
@@ -352,7 +352,7 @@ leaves s (Status v) = none
 leaves s (Stop v) = none
 leaves s (PushStatus v) = longAt (minus (addressOf (s .r) 7) 4)
 leaves s Halt = none
-leaves s (Other v) = none
+leaves s (SetOther v) = none
 leaves s (Accumulate i scale sub x y) = none
 leaves s (SetAcc i v) = none
 leaves s (SetExt i v) = none

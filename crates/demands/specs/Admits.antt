@@ -21,7 +21,7 @@ use Rattle.manual.specs.declared.Got.the-variants.{Value, Fault as NoValue}
 use Rattle.manual.specs.declared.Reply.the-variants.{Done, NotAdmitted, Stopped, OutOfRange, Masked, WrongVersion, WrongLength}
 use Rattle.manual.specs.declared.Answer.{Answer}
 use Rattle.manual.specs.declared.Action.{Action}
-use Rattle.manual.specs.declared.Action.the-variants.{Nothing, Store, StoreMany, LoadMany, Enter, Return, Status, Stop, PushStatus, Halt, Other, Accumulate, SetAcc, SetExt, SetMacsr, SetMask, CopyAcc, ClearAcc, Refuse}
+use Rattle.manual.specs.declared.Action.the-variants.{Nothing, Store, StoreMany, LoadMany, Enter, Return, Status, Stop, PushStatus, Halt, SetOther, Accumulate, SetAcc, SetExt, SetMacsr, SetMask, CopyAcc, ClearAcc, Refuse}
 use Rattle.manual.specs.declared.Change.{Change}
 use Rattle.manual.specs.declared.Mode.{Mode}
 use Rattle.manual.specs.Word.{minus, signedAt, inHalf}
@@ -32,7 +32,7 @@ use Rattle.manual.specs.EmacCalls.{accSetCall, setAccPhysCall, setMacsrCall}
 use Rattle.manual.specs.Reply.{Outcome, unchanged, isDone}
 use Rattle.manual.specs.Admitted.{status, admitted, emacAdmitted}
 use Rattle.manual.specs.Lent.{Lent, memoryOf, lentOn, firstRefusal, checked}
-use Rattle.manual.specs.Exceptions.{setSr, entered, left, levelTaken, masked, exception, interrupt, rte, push32, notPopped, popped, pop32, setSrCall}
+use Rattle.manual.specs.Exceptions.{setSr, entered, returned, levelTaken, masked, exception, interrupt, rte, push32, notPopped, popped, pop32, setSrCall}
 use Rattle.manual.specs.Block.{fresh, saysAdmitted, stateAt, notRead, readBlock}
 use Rattle.manual.specs.Image.{imageMemory, imageState, imageReply, imageBudget, imageBytes, Image, image, notLoaded, loadImage}
 use Rattle.instructions.specs.Perform.{statusPushed, act, perform}
@@ -42,7 +42,7 @@ use Rattle.word.specs.TestLaws.{by-lt}
 use Rattle.word.specs.SignedLaws.{signed-pos, signed-neg}
 use Rattle.state.specs.MaskLaws.{status-mask}
 use Rattle.state.specs.AdmittedLaws.{admitted-status, admitted-emac, registers-admitted, address-admitted, other-admitted, stopped-admitted, emac-admitted, applied-admitted, set-sr-admitted}
-use Rattle.exceptions.specs.EntryAdmitted.{refusal-admitted, taking-admitted, entered-admitted, left-admitted}
+use Rattle.exceptions.specs.EntryAdmitted.{refusal-admitted, taking-admitted, entered-admitted, returned-admitted}
 use Rattle.emac.specs.EmacKept as emac
 use Rattle.calls_emac.specs.CallsKept as calls
 
@@ -93,7 +93,7 @@ module _ (given s : Cpu) (m : Memory) (k : admitted given ≡ true) (h : admitte
   act-admitted (StoreMany mask a) = taking-admitted given m k (accessMany 16 m mask a) _ h
   act-admitted (LoadMany mask a) = taking-admitted given m k (accessMany 16 m mask a) _ (registers-admitted _ s h)
   act-admitted (Enter vector pc) = entered-admitted given m k s Kept vector pc h
-  act-admitted Return = left-admitted given m k s h
+  act-admitted Return = returned-admitted given m k s h
   act-admitted (Status v) = set-sr-admitted v s (admitted-emac s h)
   act-admitted (Stop v) = stopped-admitted true (setSr v s) (set-sr-admitted v s (admitted-emac s h))
   act-admitted (PushStatus v) =
@@ -101,7 +101,7 @@ module _ (given s : Cpu) (m : Memory) (k : admitted given ≡ true) (h : admitte
       let t : Cpu = withAddress 7 sp s in
       taking-admitted given m k (storing m sp Long) _ (set-sr-admitted v t (admitted-emac t (address-admitted 7 sp s h)))
   act-admitted Halt = stopped-admitted true s h
-  act-admitted (Other v) = other-admitted v s h
+  act-admitted (SetOther v) = other-admitted v s h
   act-admitted (Accumulate i scale sub x y) = emac-admitted _ s (emac.accumulate-kept (s .emac) (admitted-emac s h) i scale sub x y) h
   act-admitted (SetAcc i v) = emac-admitted _ s (emac.move-to-kept (s .emac) (admitted-emac s h) i v) h
   act-admitted (SetExt i v) = emac-admitted _ s (emac.set-ext-kept (s .emac) (admitted-emac s h) i v) h
@@ -146,7 +146,7 @@ module _ (s : Cpu) (l : Lent) (h : admitted s ≡ true) where
 
   rte-admitted : admitted (rte s l .stepped .cpu) ≡ true
   unfolding rte
-  rte-admitted = checked-admitted _ (left-admitted s m h s h)
+  rte-admitted = checked-admitted _ (returned-admitted s m h s h)
 
   push-admitted : (v : ℕ) → admitted (push32 s l v .stepped .cpu) ≡ true
   unfolding push32

@@ -81,8 +81,8 @@ module _ (g : List ℕ) (at sr : ℕ) (m : Memory) (op : ℕ) where
   unfolding l0.sumImmediate done
   sum-immediate add = load-made m (plus at 2) Long [] _ refl
 
-  compare-immediate : (z : Size) → Made m (words (plus at 2) (extension Immediate z)) (l0.compareImmediate z g at sr m op)
-  unfolding l0.compareImmediate done
+  compare-immediate : (z : Size) → Made m (words (plus at 2) (extension Immediate z)) (l0.cmpi z g at sr m op)
+  unfolding l0.cmpi done
   compare-immediate z =
       reading-only m (words (plus at 2) (extension Immediate z)) (value g m (plus at 2) Immediate z) _ (missing-immediate m g (plus at 2) z) (λ v. refl)
 
@@ -113,20 +113,20 @@ module _ (g : List ℕ) (at sr : ℕ) (m : Memory) (op : ℕ) where
   by-register = bit-operation (plus at 2) _
 
   pub line0-made : (n : ℕ) → Made m (acc.reads0 g at m op n) (l0.line0 n g at sr m op)
-  unfolding acc.reads0 l0.line0 l0.bitReverse l0.byteReverse l0.findFirstOne done
+  unfolding acc.reads0 l0.line0 l0.bitrev l0.byterev l0.ff1 done
   line0-made n =
       all-made
-      (row none (l0.bitReverse g at sr op) refl
-      (row none (l0.byteReverse g at sr op) refl
-      (row none (l0.findFirstOne g at sr op) refl
+      (row none (l0.bitrev g at sr op) refl
+      (row none (l0.byterev g at sr op) refl
+      (row none (l0.ff1 g at sr op) refl
       (row (longAt (plus at 2)) (l0.logicImmediate Or g at sr m op) (logic-immediate Or)
       (row (longAt (plus at 2)) (l0.logicImmediate And g at sr m op) (logic-immediate And)
       (row (longAt (plus at 2)) (l0.sumImmediate false g at m op) (sum-immediate false)
       (row (longAt (plus at 2)) (l0.sumImmediate true g at m op) (sum-immediate true)
       (row (longAt (plus at 2)) (l0.logicImmediate Eor g at sr m op) (logic-immediate Eor)
-      (row (words (plus at 2) (extension Immediate Byte)) (l0.compareImmediate Byte g at sr m op) (compare-immediate Byte)
-      (row (words (plus at 2) (extension Immediate Word)) (l0.compareImmediate Word g at sr m op) (compare-immediate Word)
-      (row (words (plus at 2) (extension Immediate Long)) (l0.compareImmediate Long g at sr m op) (compare-immediate Long)
+      (row (words (plus at 2) (extension Immediate Byte)) (l0.cmpi Byte g at sr m op) (compare-immediate Byte)
+      (row (words (plus at 2) (extension Immediate Word)) (l0.cmpi Word g at sr m op) (compare-immediate Word)
+      (row (words (plus at 2) (extension Immediate Long)) (l0.cmpi Long g at sr m op) (compare-immediate Long)
       (row (wordAt (plus at 2) ++ operandAt g m (plus at 4) op Byte) (l0.bitByImmediate g at sr m op) by-immediate
       (row (from Byte) (l0.bitByRegister g at sr m op) by-register
       end)))))))))))))
@@ -158,21 +158,21 @@ module _ (g : List ℕ) (at sr : ℕ) (m : Memory) (op : ℕ) where
       let next : ℕ = plus (plus at 2) (extension (named op) z) in
       source-made m g (plus at 2) op z (words next (extension (operand (op / 64 % 8) (op / 512 % 8)) z)) _ (λ v. move-to z next _ _ _ v refl)
 
-  move-address : (z : Size) → Made m (from z) (moves.moveAddress z g at sr m op)
-  unfolding moves.moveAddress done
+  move-address : (z : Size) → Made m (from z) (moves.movea z g at sr m op)
+  unfolding moves.movea done
   move-address z = source-only m g (plus at 2) op z _ (λ v. refl)
 
   pub line1-made : (n : ℕ) → Made m (acc.reads1 g at m op n) (moves.line1 n g at sr m op)
   unfolding acc.reads1 moves.line1
-  line1-made n = all-made (row (from Byte) (moves.moveAddress Byte g at sr m op) (move-address Byte) end) (placeIn (firstRow 1) n) _ _ (move-made Byte)
+  line1-made n = all-made (row (from Byte) (moves.movea Byte g at sr m op) (move-address Byte) end) (placeIn (firstRow 1) n) _ _ (move-made Byte)
 
   pub line2-made : (n : ℕ) → Made m (acc.reads2 g at m op n) (moves.line2 n g at sr m op)
   unfolding acc.reads2 moves.line2
-  line2-made n = all-made (row (from Long) (moves.moveAddress Long g at sr m op) (move-address Long) end) (placeIn (firstRow 2) n) _ _ (move-made Long)
+  line2-made n = all-made (row (from Long) (moves.movea Long g at sr m op) (move-address Long) end) (placeIn (firstRow 2) n) _ _ (move-made Long)
 
   pub line3-made : (n : ℕ) → Made m (acc.reads3 g at m op n) (moves.line3 n g at sr m op)
   unfolding acc.reads3 moves.line3
-  line3-made n = all-made (row (from Word) (moves.moveAddress Word g at sr m op) (move-address Word) end) (placeIn (firstRow 3) n) _ _ (move-made Word)
+  line3-made n = all-made (row (from Word) (moves.movea Word g at sr m op) (move-address Word) end) (placeIn (firstRow 3) n) _ _ (move-made Word)
 
   -- ---- line 4
 
@@ -238,24 +238,24 @@ module _ (g : List ℕ) (at sr : ℕ) (m : Memory) (op : ℕ) where
       (load-made m (plus at 2) Word (cond (eqb w 0x46FC) (wordAt (plus at 4)) none) _
       (cond-made m (eqb w 0x46FC) (wordAt (plus at 4)) none _ _ (load-made m (plus at 4) Word [] _ (allowed _ refl)) (illegal-made m at sr)))
 
-  to-usp : Made m none (l4.toUsp g at sr op)
-  unfolding l4.toUsp acting
+  to-usp : Made m none (l4.moveToUsp g at sr op)
+  unfolding l4.moveToUsp acting
   to-usp = allowed _ refl
 
-  from-usp : (other : ℕ) → Made m none (l4.fromUsp at sr other op)
-  unfolding l4.fromUsp done
+  from-usp : (other : ℕ) → Made m none (l4.moveFromUsp at sr other op)
+  unfolding l4.moveFromUsp done
   from-usp other = allowed _ refl
 
-  from-sr : Made m none (l4.fromSr g at sr op)
-  unfolding l4.fromSr done
+  from-sr : Made m none (l4.moveFromSr g at sr op)
+  unfolding l4.moveFromSr done
   from-sr = allowed _ (either-made m (eqb (op / 8 % 8) 0) [] _ _ refl (illegal-made m at sr))
 
-  to-sr : Made m (from Word) (l4.toSr g at sr m op)
-  unfolding l4.toSr acting enterAfter
+  to-sr : Made m (from Word) (l4.moveToSr g at sr m op)
+  unfolding l4.moveToSr acting enterAfter
   to-sr = source-only m g (plus at 2) op Word _ (λ v. either-made m (supervisor sr) [] _ _ refl refl)
 
-  to-ccr : Made m (from Word) (l4.toCcr g at m op)
-  unfolding l4.toCcr done
+  to-ccr : Made m (from Word) (l4.moveToCcr g at m op)
+  unfolding l4.moveToCcr done
   to-ccr = source-only m g (plus at 2) op Word _ (λ v. refl)
 
   many-made : (b : Bool) (mask a : ℕ) → refusing (l4.many b mask a) ≡ 0
@@ -263,8 +263,8 @@ module _ (g : List ℕ) (at sr : ℕ) (m : Memory) (op : ℕ) where
   many-made true mask a = refl
   many-made false mask a = refl
 
-  move-many : (b : Bool) → Made m (acc.manyReads g at m op) (l4.moveMany b g at sr m op)
-  unfolding l4.moveMany acting
+  move-many : (b : Bool) → Made m (acc.manyReads g at m op) (l4.movem b g at sr m op)
+  unfolding l4.movem acting
   move-many b =
       rw next-word
       (load-made m (plus at 2) Word displaced _
@@ -281,27 +281,27 @@ module _ (g : List ℕ) (at sr : ℕ) (m : Memory) (op : ℕ) where
           by true e = rw (eqb-true (op / 8 % 8) 2 e) p
           by false e = q
 
-  clear-made : Made m (extensionOf (plus at 2) op (sizeOf (op / 64))) (l4.clear g at sr m op)
-  unfolding l4.clear
+  clear-made : Made m (extensionOf (plus at 2) op (sizeOf (op / 64))) (l4.clr g at sr m op)
+  unfolding l4.clr
   clear-made =
       let z : Size = sizeOf (op / 64) in
       put-to-made m (extensionOf (plus at 2) op z) g _ (destination g m (plus at 2) op z) z 0 (destination-found m g (plus at 2) op z)
 
-  test-made : Made m (from (sizeOf (op / 64))) (l4.test g at sr m op)
-  unfolding l4.test done
+  test-made : Made m (from (sizeOf (op / 64))) (l4.tst g at sr m op)
+  unfolding l4.tst done
   test-made = source-only m g (plus at 2) op (sizeOf (op / 64)) _ (λ v. refl)
 
-  tas-made : Made m (from Byte) (l4.testAndSet g at sr m op)
-  unfolding l4.testAndSet
+  tas-made : Made m (from Byte) (l4.tas g at sr m op)
+  unfolding l4.tas
   tas-made = destination-made m g (plus at 2) op Byte _ (λ v found. put-to-made m [] g _ (destination g m (plus at 2) op Byte) Byte _ found)
 
-  multiply-made : Made m (wordAt (plus at 2) ++ operandAt g m (plus at 4) op Long) (l4.multiply g at sr m op)
-  unfolding l4.multiply done
+  multiply-made : Made m (wordAt (plus at 2) ++ operandAt g m (plus at 4) op Long) (l4.mulL g at sr m op)
+  unfolding l4.mulL done
   multiply-made =
       rw next-word (load-made m (plus at 2) Word (operandAt g m (plus at 4) op Long) _ (source-only m g (plus at 4) op Long _ (λ v. refl)))
 
-  divide-made : Made m (wordAt (plus at 2) ++ operandAt g m (plus at 4) op Long) (l4.divide g at sr m op)
-  unfolding l4.divide done enterAfter acting
+  divide-made : Made m (wordAt (plus at 2) ++ operandAt g m (plus at 4) op Long) (l4.divL g at sr m op)
+  unfolding l4.divL done enterAfter acting
   divide-made =
       rw next-word
       (load-made m (plus at 2) Word (operandAt g m (plus at 4) op Long) _
@@ -309,96 +309,96 @@ module _ (g : List ℕ) (at sr : ℕ) (m : Memory) (op : ℕ) where
       (λ v. either-made m (eqb v 0) [] _ _ refl (either-made m (l4.divided _ (dataOf g (_ / 0x1000)) v .fits) [] _ _ refl refl))))
 
   pub line4-made : (other n : ℕ) → ((firstRow 4 + placeIn (firstRow 4) n ≡ movecRead) ⊎ (firstRow 4 + placeIn (firstRow 4) n ≡ movecWrite)) ⊎ Made m (acc.reads4 g at m op n) (l4.line4 n g at sr other m op)
-  unfolding acc.reads4 l4.line4 l4.nothing l4.halt l4.trap l4.fromCcr l4.swap l4.extendByte l4.extendToWord l4.extendToLong l4.saturate l4.negate l4.negateExtended l4.complement jump done acting enter enterAfter
+  unfolding acc.reads4 l4.line4 l4.nop l4.halt l4.trap l4.moveFromCcr l4.swap l4.extb l4.extW l4.extL l4.sats l4.neg l4.negx l4.not jump done acting enter enterAfter
   line4-made other n =
       listed {P = λ k. (k ≡ movecRead) ⊎ (k ≡ movecWrite)}
-      (row none (l4.nothing at sr) refl
+      (row none (l4.nop at sr) refl
       (row (wordAt (plus at 2)) (l4.stop at sr m) stop-made
       (row none (l4.rte at sr) rte-made
       (row (longAt (addressOf g 7)) (l4.rts g sr m) rts-made
       (out none notCarried (inl refl)
       (out none notCarried (inr refl)
       (row none (l4.halt at sr) refl
-      (row none (l4.nothing at sr) refl
+      (row none (l4.nop at sr) refl
       (row none (illegal at sr) (illegal-made m at sr)
       (row (acc.statusReads g at m op) (l4.stldsr at sr m) stldsr-made
-      (row none (l4.extendByte g at sr op) refl
+      (row none (l4.extb g at sr op) refl
       (row (wordAt (plus at 2)) (l4.link g at sr m op) link-made
       (row (longAt (addressOf g op)) (l4.unlk g at sr m op) unlk-made
-      (row none (l4.toUsp g at sr op) to-usp
-      (row none (l4.fromUsp at sr other op) (from-usp other)
-      (row none (l4.fromCcr g at sr op) refl
+      (row none (l4.moveToUsp g at sr op) to-usp
+      (row none (l4.moveFromUsp at sr other op) (from-usp other)
+      (row none (l4.moveFromCcr g at sr op) refl
       (row none (l4.swap g at sr op) refl
-      (row none (l4.extendToWord g at sr op) refl
-      (row none (l4.extendToLong g at sr op) refl
-      (row none (l4.saturate g at sr op) refl
-      (row none (l4.negateExtended g at sr op) refl
-      (row none (l4.negate g at op) refl
-      (row none (l4.complement g at sr op) refl
+      (row none (l4.extW g at sr op) refl
+      (row none (l4.extL g at sr op) refl
+      (row none (l4.sats g at sr op) refl
+      (row none (l4.negx g at sr op) refl
+      (row none (l4.neg g at op) refl
+      (row none (l4.not g at sr op) refl
       (row none (l4.trap at sr op) refl
       (row address-words (l4.jsr g at sr m op) jsr-made
       (row address-words (l4.jmp g at sr m op) jmp-made
-      (row none (l4.fromSr g at sr op) from-sr
+      (row none (l4.moveFromSr g at sr op) from-sr
       (row none (illegal at sr) (illegal-made m at sr)
-      (row (from Word) (l4.toCcr g at m op) to-ccr
-      (row (from Word) (l4.toSr g at sr m op) to-sr
+      (row (from Word) (l4.moveToCcr g at m op) to-ccr
+      (row (from Word) (l4.moveToSr g at sr m op) to-sr
       (row address-words (l4.pea g at sr m op) pea-made
-      (row (acc.manyReads g at m op) (l4.moveMany true g at sr m op) (move-many true)
-      (row (acc.manyReads g at m op) (l4.moveMany false g at sr m op) (move-many false)
-      (row (wordAt (plus at 2) ++ operandAt g m (plus at 4) op Long) (l4.multiply g at sr m op) multiply-made
-      (row (wordAt (plus at 2) ++ operandAt g m (plus at 4) op Long) (l4.divide g at sr m op) divide-made
-      (row (from Byte) (l4.testAndSet g at sr m op) tas-made
-      (row (extensionOf (plus at 2) op (sizeOf (op / 64))) (l4.clear g at sr m op) clear-made
-      (row (from (sizeOf (op / 64))) (l4.test g at sr m op) test-made
+      (row (acc.manyReads g at m op) (l4.movem true g at sr m op) (move-many true)
+      (row (acc.manyReads g at m op) (l4.movem false g at sr m op) (move-many false)
+      (row (wordAt (plus at 2) ++ operandAt g m (plus at 4) op Long) (l4.mulL g at sr m op) multiply-made
+      (row (wordAt (plus at 2) ++ operandAt g m (plus at 4) op Long) (l4.divL g at sr m op) divide-made
+      (row (from Byte) (l4.tas g at sr m op) tas-made
+      (row (extensionOf (plus at 2) op (sizeOf (op / 64))) (l4.clr g at sr m op) clear-made
+      (row (from (sizeOf (op / 64))) (l4.tst g at sr m op) test-made
       (row address-words (l4.lea g at sr m op) lea-made
       end)))))))))))))))))))))))))))))))))))))))
       (placeIn (firstRow 4) n) none (illegal at sr) (illegal-made m at sr)
 
   -- ---- lines 9 and D, and 5
 
-  to-place : (add : Bool) (z : Size) (n : ℕ) → Made m (from z) (l9.toPlace add z g at m op n)
-  unfolding l9.toPlace
+  to-place : (add : Bool) (z : Size) (n : ℕ) → Made m (from z) (l9.addToPlace add z g at m op n)
+  unfolding l9.addToPlace
   to-place add z n = destination-made m g (plus at 2) op z _ (λ v found. put-to-made m [] g _ (destination g m (plus at 2) op z) z _ found)
 
-  to-data : (add : Bool) → Made m (from (anySize op)) (l9.toData add g at m op)
-  unfolding l9.toData done
+  to-data : (add : Bool) → Made m (from (anySize op)) (l9.addToData add g at m op)
+  unfolding l9.addToData done
   to-data add = source-only m g (plus at 2) op (anySize op) _ (λ v. refl)
 
-  to-address : (add : Bool) (z : Size) → Made m (from z) (l9.toAddress add z g at sr m op)
-  unfolding l9.toAddress done
+  to-address : (add : Bool) (z : Size) → Made m (from z) (l9.adda add z g at sr m op)
+  unfolding l9.adda done
   to-address add z = source-only m g (plus at 2) op z _ (λ v. refl)
 
   pub sums-made : (first : ℕ) (add : Bool) (n : ℕ) → Made m (acc.reads9D g at m op first n) (l9.sums first add n g at sr m op)
-  unfolding acc.reads9D l9.sums l9.withX l9.toMemory done
+  unfolding acc.reads9D l9.sums l9.addx l9.addToMemory done
   sums-made first add n =
       all-made
-      (row none (l9.withX add g at sr op) refl
-      (row none (l9.withX add g at sr op) refl
-      (row none (l9.withX add g at sr op) refl
+      (row none (l9.addx add g at sr op) refl
+      (row none (l9.addx add g at sr op) refl
+      (row none (l9.addx add g at sr op) refl
       (row none (illegal at sr) (illegal-made m at sr)
       (row none (illegal at sr) (illegal-made m at sr)
       (row none (illegal at sr) (illegal-made m at sr)
-      (row (from Word) (l9.toAddress add Word g at sr m op) (to-address add Word)
-      (row (from Long) (l9.toAddress add Long g at sr m op) (to-address add Long)
-      (row (from (anySize op)) (l9.toData add g at m op) (to-data add)
+      (row (from Word) (l9.adda add Word g at sr m op) (to-address add Word)
+      (row (from Long) (l9.adda add Long g at sr m op) (to-address add Long)
+      (row (from (anySize op)) (l9.addToData add g at m op) (to-data add)
       end)))))))))
       (placeIn first n) (from (anySize op)) _ (to-place add (anySize op) (dataOf g (op / 512)))
 
-  quick-made : Made m (from (anySize op)) (l5.quick g at m op)
-  unfolding l5.quick l5.quickData done
+  quick-made : Made m (from (anySize op)) (l5.addq g at m op)
+  unfolding l5.addq l5.addqData done
   quick-made = data-or (plus at 2) (anySize op) _ _ refl (to-place _ _ _)
 
   pub line5-made : (n : ℕ) → Made m (acc.reads5 g at m op n) (l5.line5 n g at sr m op)
-  unfolding acc.reads5 l5.line5 l5.skip l5.quickAddress l5.setByCondition jump done
+  unfolding acc.reads5 l5.line5 l5.tpf l5.addqAddress l5.scc jump done
   line5-made n =
       all-made
-      (row none (l5.skip 2 at sr) refl
-      (row none (l5.skip 4 at sr) refl
-      (row none (l5.skip 0 at sr) refl
-      (row none (l5.quickAddress g at sr op) refl
-      (row none (l5.quickAddress g at sr op) refl
-      (row none (l5.quickAddress g at sr op) refl
-      (row none (l5.setByCondition g at sr op) refl
+      (row none (l5.tpf 2 at sr) refl
+      (row none (l5.tpf 4 at sr) refl
+      (row none (l5.tpf 0 at sr) refl
+      (row none (l5.addqAddress g at sr op) refl
+      (row none (l5.addqAddress g at sr op) refl
+      (row none (l5.addqAddress g at sr op) refl
+      (row none (l5.scc g at sr op) refl
       (row none (illegal at sr) (illegal-made m at sr)
       end))))))))
       (placeIn (firstRow 5) n) (from (anySize op)) _ quick-made
@@ -443,28 +443,28 @@ module _ (g : List ℕ) (at sr : ℕ) (m : Memory) (op : ℕ) where
   line6-made n =
       all-made (row branch-words (l6.bra at sr m op) bra-made (row branch-words (l6.bsr g at sr m op) bsr-made end)) (placeIn (firstRow 6) n) branch-words _ bcc-made
 
-  move-signed : Made m (from (sizeOf (op / 64 % 2))) (l7.moveSigned g at sr m op)
-  unfolding l7.moveSigned done
+  move-signed : Made m (from (sizeOf (op / 64 % 2))) (l7.mvs g at sr m op)
+  unfolding l7.mvs done
   move-signed = source-only m g (plus at 2) op (sizeOf (op / 64 % 2)) _ (λ v. refl)
 
-  move-zero : Made m (from (sizeOf (op / 64 % 2))) (l7.moveZero g at sr m op)
-  unfolding l7.moveZero done
+  move-zero : Made m (from (sizeOf (op / 64 % 2))) (l7.mvz g at sr m op)
+  unfolding l7.mvz done
   move-zero = source-only m g (plus at 2) op (sizeOf (op / 64 % 2)) _ (λ v. refl)
 
   pub line7-made : (n : ℕ) → Made m (acc.reads7 g at m op n) (l7.line7 n g at sr m op)
-  unfolding acc.reads7 l7.line7 l7.moveQuick done
+  unfolding acc.reads7 l7.line7 l7.moveq done
   line7-made n =
       let l : List Wanted = from (sizeOf (op / 64 % 2)) in
-      all-made (row l (l7.moveSigned g at sr m op) move-signed (row l (l7.moveZero g at sr m op) move-zero end)) (placeIn (firstRow 7) n) none (l7.moveQuick at sr op) refl
+      all-made (row l (l7.mvs g at sr m op) move-signed (row l (l7.mvz g at sr m op) move-zero end)) (placeIn (firstRow 7) n) none (l7.moveq at sr op) refl
 
   -- ---- lines B, C, E and F
 
-  compare-address : (z : Size) → Made m (from z) (lb.compareAddress z g at sr m op)
-  unfolding lb.compareAddress done
+  compare-address : (z : Size) → Made m (from z) (lb.cmpa z g at sr m op)
+  unfolding lb.cmpa done
   compare-address z = source-only m g (plus at 2) op z _ (λ v. refl)
 
-  compare-data : Made m (from (sizeOf (op / 64))) (lb.compareData g at sr m op)
-  unfolding lb.compareData done
+  compare-data : Made m (from (sizeOf (op / 64))) (lb.cmp g at sr m op)
+  unfolding lb.cmp done
   compare-data = source-only m g (plus at 2) op (sizeOf (op / 64)) _ (λ v. refl)
 
   logic-to-place : (l : Logic) → Made m (from (anySize op)) (lb.logicToPlace l g at sr m op)
@@ -477,9 +477,9 @@ module _ (g : List ℕ) (at sr : ℕ) (m : Memory) (op : ℕ) where
   unfolding acc.readsB lb.lineB
   lineB-made n =
       all-made
-      (row (from Word) (lb.compareAddress Word g at sr m op) (compare-address Word)
-      (row (from Long) (lb.compareAddress Long g at sr m op) (compare-address Long)
-      (row (from (sizeOf (op / 64))) (lb.compareData g at sr m op) compare-data
+      (row (from Word) (lb.cmpa Word g at sr m op) (compare-address Word)
+      (row (from Long) (lb.cmpa Long g at sr m op) (compare-address Long)
+      (row (from (sizeOf (op / 64))) (lb.cmp g at sr m op) compare-data
       end)))
       (placeIn (firstRow 0xB) n) (from (anySize op)) _ (logic-to-place Eor)
 
@@ -487,16 +487,16 @@ module _ (g : List ℕ) (at sr : ℕ) (m : Memory) (op : ℕ) where
   unfolding lc.logicToData done
   logic-to-data l = source-only m g (plus at 2) op (anySize op) _ (λ v. refl)
 
-  multiply-words : (signs : Bool) → Made m (from Word) (lc.multiplyWords signs g at sr m op)
-  unfolding lc.multiplyWords done
+  multiply-words : (signs : Bool) → Made m (from Word) (lc.mulW signs g at sr m op)
+  unfolding lc.mulW done
   multiply-words signs = source-only m g (plus at 2) op Word _ (λ v. refl)
 
   pub lineC-made : (n : ℕ) → Made m (acc.readsC g at m op n) (lc.lineC n g at sr m op)
   unfolding acc.readsC lc.lineC
   lineC-made n =
       all-made
-      (row (from Word) (lc.multiplyWords false g at sr m op) (multiply-words false)
-      (row (from Word) (lc.multiplyWords true g at sr m op) (multiply-words true)
+      (row (from Word) (lc.mulW false g at sr m op) (multiply-words false)
+      (row (from Word) (lc.mulW true g at sr m op) (multiply-words true)
       (row (from (anySize op)) (lc.logicToData And g at sr m op) (logic-to-data And)
       end)))
       (placeIn (firstRow 0xC) n) (from (anySize op)) _ (logic-to-place And)
@@ -516,16 +516,16 @@ module _ (g : List ℕ) (at sr : ℕ) (m : Memory) (op : ℕ) where
   debug-ends pc l (At (NoValue x)) size skipped e = rw (← e) (refused-number x)
   debug-ends pc l NoAddress size skipped e = rw (← e) (jump-made _)
 
-  write-debug : Made m address-words (lf.writeDebug g at sr m op)
-  unfolding lf.writeDebug
+  write-debug : Made m address-words (lf.wdebug g at sr m op)
+  unfolding lf.wdebug
   write-debug = debug-ends (plus at 2) address-words (control g m (plus at 2) (named op)) _ 2 (control-missed m g (plus at 2) op)
 
   cache-line : Made m none (lf.cacheLine at sr)
   unfolding lf.cacheLine
   cache-line = allowed _ (jump-made _)
 
-  debug-data : Made m (extensionOf (plus at 2) op (sizeOf (op / 64))) (lf.writeDebugData g at sr m op)
-  unfolding lf.writeDebugData done
+  debug-data : Made m (extensionOf (plus at 2) op (sizeOf (op / 64))) (lf.wddata g at sr m op)
+  unfolding lf.wddata done
   debug-data =
       let z : Size = sizeOf (op / 64) in
       locating-made m (extensionOf (plus at 2) op z) (destination g m (plus at 2) op z .place) _ (destination-found m g (plus at 2) op z) refl
@@ -534,9 +534,9 @@ module _ (g : List ℕ) (at sr : ℕ) (m : Memory) (op : ℕ) where
   unfolding acc.readsF lf.lineF enter enterAfter acting
   lineF-made n =
       all-made
-      (row address-words (lf.writeDebug g at sr m op) write-debug
+      (row address-words (lf.wdebug g at sr m op) write-debug
       (row none (lf.cacheLine at sr) cache-line
-      (row (extensionOf (plus at 2) op (sizeOf (op / 64))) (lf.writeDebugData g at sr m op) debug-data
+      (row (extensionOf (plus at 2) op (sizeOf (op / 64))) (lf.wddata g at sr m op) debug-data
       end)))
       (placeIn (firstRow 0xF) n) none (enter sr 11 at) refl
 
@@ -549,20 +549,20 @@ module _ (g : List ℕ) (at sr : ℕ) (m : Memory) (op : ℕ) where
   setting-made Macsr v = refl
   setting-made Mask v = refl
 
-  to-emac : (part : EmacPart) → Made m (from Long) (la.toEmac part g at sr m op)
-  unfolding la.toEmac acting
+  to-emac : (part : EmacPart) → Made m (from Long) (la.moveToEmac part g at sr m op)
+  unfolding la.moveToEmac acting
   to-emac part = source-only m g (plus at 2) op Long _ (λ v. setting-made part v)
 
-  from-acc : (e : Emac) → Made m none (la.fromAcc at sr e op)
-  unfolding la.fromAcc acting
+  from-acc : (e : Emac) → Made m none (la.moveFromAcc at sr e op)
+  unfolding la.moveFromAcc acting
   from-acc e = by (eqb (op / 64 % 2) 1)
     where
-      by : (b : Bool) → refusing (cond b (ClearAcc (la.numbered op)) Nothing) ≡ 0
+      by : (b : Bool) → refusing (cond b (ClearAcc (la.accNumber op)) Nothing) ≡ 0
       by true = refl
       by false = refl
 
-  move-three : Made m (extensionOf (plus at 2) op Long) (la.moveThree g at sr m op)
-  unfolding la.moveThree
+  move-three : Made m (extensionOf (plus at 2) op Long) (la.mov3q g at sr m op)
+  unfolding la.mov3q
   move-three = put-to-made m (extensionOf (plus at 2) op Long) g _ (destination g m (plus at 2) op Long) Long _ (destination-found m g (plus at 2) op Long)
 
   unassigned-made : Made m (from Long) (la.unassigned g at sr m op)
@@ -570,20 +570,20 @@ module _ (g : List ℕ) (at sr : ℕ) (m : Memory) (op : ℕ) where
   unassigned-made = source-only m g (plus at 2) op Long _ (λ v. refl)
 
   pub lineA-made : (e : Emac) (n : ℕ) → (firstRow 0xA + placeIn (firstRow 0xA) n ≡ macRow) ⊎ Made m (acc.readsA g at m op (e .mask) n) (la.lineA n g at sr e m op)
-  unfolding acc.readsA la.lineA la.macsrToCcr la.copy la.toGeneral done acting
+  unfolding acc.readsA la.lineA la.moveMacsrToCcr la.moveAccToAcc la.moveToGeneral done acting
   lineA-made e n =
       listed {P = λ k. k ≡ macRow}
-      (row none (la.macsrToCcr at (e .macsr)) refl
-      (row none (la.copy at sr op) refl
-      (row none (la.toGeneral at sr op (e .macsr)) refl
-      (row none (la.toGeneral at sr op (e .mask)) refl
-      (row none (la.toGeneral at sr op (readExt (has (e .macsr) 5) e (la.pair op))) refl
-      (row (from Long) (la.toEmac Macsr g at sr m op) (to-emac Macsr)
-      (row (from Long) (la.toEmac Mask g at sr m op) (to-emac Mask)
-      (row none (la.fromAcc at sr e op) (from-acc e)
-      (row (from Long) (la.toEmac Ext g at sr m op) (to-emac Ext)
-      (row (from Long) (la.toEmac Acc g at sr m op) (to-emac Acc)
-      (row (extensionOf (plus at 2) op Long) (la.moveThree g at sr m op) move-three
+      (row none (la.moveMacsrToCcr at (e .macsr)) refl
+      (row none (la.moveAccToAcc at sr op) refl
+      (row none (la.moveToGeneral at sr op (e .macsr)) refl
+      (row none (la.moveToGeneral at sr op (e .mask)) refl
+      (row none (la.moveToGeneral at sr op (readExt (has (e .macsr) 5) e (la.extPair op))) refl
+      (row (from Long) (la.moveToEmac Macsr g at sr m op) (to-emac Macsr)
+      (row (from Long) (la.moveToEmac Mask g at sr m op) (to-emac Mask)
+      (row none (la.moveFromAcc at sr e op) (from-acc e)
+      (row (from Long) (la.moveToEmac Ext g at sr m op) (to-emac Ext)
+      (row (from Long) (la.moveToEmac Acc g at sr m op) (to-emac Acc)
+      (row (extensionOf (plus at 2) op Long) (la.mov3q g at sr m op) move-three
       (out (acc.macReads g at m op (e .mask)) (la.mac g at sr (e .mask) m op) refl
       end))))))))))))
       (placeIn (firstRow 0xA) n) (from Long) _ unassigned-made

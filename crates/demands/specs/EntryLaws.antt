@@ -21,7 +21,7 @@ use Rattle.manual.specs.Reply.{Outcome, isDone, completed, unchanged, refusal, 
 use Rattle.manual.specs.Admitted.{status}
 use Rattle.manual.specs.Lent.{Lent, memoryOf, firstRefusal, checked}
 use Rattle.manual.specs.Differences.{frameBytes, vectorPlace}
-use Rattle.manual.specs.Exceptions.{supervisor, twoStacks, setSr, handling, frameLong, pcPlace, framePlace, framed, handlerState, entered, returned, left}
+use Rattle.manual.specs.Exceptions.{supervisor, twoStacks, setSr, handlerSr, frameLong, pcPlace, framePlace, framed, handlerState, entered, returnState, returned}
 use Rattle.word.specs.TestLaws.{by-lt}
 use Rattle.memory.specs.MemoryLaws.{length-store, value-same, read-other, read-same}
 use Rattle.demands.specs.Exact.{Ready}
@@ -99,13 +99,13 @@ s-status v =
     let e : v / 0x1000 % 4 / 2 ≡ v / 0x2000 % 2 = omega arith in
     rw (s-of (v / 0x8000) (v / 0x1000) (v / 0x100) v, e)
 
-s-handling : (level : Level) (sr : ℕ) → handling level sr / 0x2000 % 2 ≡ 1
-unfolding handling
+s-handling : (level : Level) (sr : ℕ) → handlerSr level sr / 0x2000 % 2 ≡ 1
+unfolding handlerSr
 s-handling Kept sr = omega arith
 s-handling (To level) sr = omega arith
 
-pub handler-s : (level : Level) (sr : ℕ) → supervisor (status (handling level sr)) ≡ true
-handler-s level sr = s-status (handling level sr) ∙ eq-eqb _ 1 (s-handling level sr)
+pub handler-s : (level : Level) (sr : ℕ) → supervisor (status (handlerSr level sr)) ≡ true
+handler-s level sr = s-status (handlerSr level sr) ∙ eq-eqb _ 1 (s-handling level sr)
 
 -- ---- the stack pointers after a new status register: in each other's place, or not
 
@@ -205,11 +205,11 @@ pub record Went (s : Cpu) (m : Memory) (vector pc : ℕ) (t : Cpu) (sp : ℕ) (o
   pub storage : o .storage ≡ frameOn (storageOf m) sp vector (s .sr) pc
 
 pub went : (given s : Cpu) (level : Level) (vector pc : ℕ) (m : Memory) → entered given s level vector pc m .stepped .reply ≡ Done
-    → let t : Cpu = setSr (handling level (s .sr)) s in
+    → let t : Cpu = setSr (handlerSr level (s .sr)) s in
     Went s m vector pc t (addressOf (t .r) 7) (entered given s level vector pc m)
 unfolding entered
 went given s level vector pc m e =
-    let t : Cpu = setSr (handling level (s .sr)) s in
+    let t : Cpu = setSr (handlerSr level (s .sr)) s in
     let sp : ℕ = addressOf (t .r) 7 in
     let b : ℕ → ℕ → Storage = λ high low. framed (storageOf m) high low pc (frameLong sp vector (s .sr)) in
     let all : ℕ → ℕ → ℕ → Outcome = λ high low table. completed (handlerState t (framePlace sp) (valueAt (b high low) table 4)) vector (b high low) in
@@ -223,8 +223,8 @@ went given s level vector pc m e =
 
 pub left-in : (given s : Cpu) (m : Memory) (low high w pc : ℕ) → addressOf (s .r) 7 ≡ low → plus low 4 ≡ high
     → low + 4 ≤ length (storageOf m) → high + 4 ≤ length (storageOf m) → valueAt (storageOf m) low 4 ≡ w → valueAt (storageOf m) high 4 ≡ pc
-    → left given s m ≡ completed (returned s low w pc) 0 (storageOf m)
-unfolding left
+    → returned given s m ≡ completed (returnState s low w pc) 0 (storageOf m)
+unfolding returned
 left-in given s m low high w pc es eh lo hi ew ep = rw (es, eh, load-at m low Long lo, load-at m high Long hi, ew, ep)
 
 -- ---- a call that was done passed its tests

@@ -19,7 +19,7 @@ use Rattle.manual.specs.Memory.{Memory, load, storing, stored}
 use Rattle.manual.specs.Reply.{numberOf, isDone, Outcome, completed, unchanged, refusal, loading, taking}
 use Rattle.manual.specs.Admitted.{admitted}
 use Rattle.manual.specs.Lent.{Lent, memoryOf, firstRefusal, checked}
-use Rattle.manual.specs.Exceptions.{maskOf, entered, left, levelTaken, masked, exception, interrupt, rte, push32, notPopped, popped, pop32}
+use Rattle.manual.specs.Exceptions.{maskOf, entered, returned, levelTaken, masked, exception, interrupt, rte, push32, notPopped, popped, pop32}
 use Rattle.demands.specs.Accesses.{Wanted, wanted, Inside, Outside, SomeOutside, entryAt, returnAt}
 use Rattle.demands.specs.ReplyLaws as laws
 use Rattle.demands.specs.Exact.{numbered, TooLong, Usable, Ready, OneOf}
@@ -190,30 +190,30 @@ module _ (s : Cpu) (l : Lent) where
   abbrev m : Memory
   m = memoryOf l
 
-  back-never : (k : ℕ) → (0 ≡ k → ⊥) → (4 ≡ k → ⊥) → numbered (left s s m) ≡ k → ⊥
-  back-never = laws.answers-never m (returnAt s) (left s s m) (laws.left-answers s s m)
+  back-never : (k : ℕ) → (0 ≡ k → ⊥) → (4 ≡ k → ⊥) → numbered (returned s s m) ≡ k → ⊥
+  back-never = laws.answers-never m (returnAt s) (returned s s m) (laws.returned-answers s s m)
 
   pub of-rte-1 : (numbered (rte s l) ≡ 1) ↔ TooLong l
   unfolding rte
-  of-rte-1 = laws.checked-1 s l (left s s m) (back-never 1 (λ h. omega arith) (λ h. omega arith))
+  of-rte-1 = laws.checked-1 s l (returned s s m) (back-never 1 (λ h. omega arith) (λ h. omega arith))
 
   pub of-rte-2 : (numbered (rte s l) ≡ 2) ↔ (Usable l × (admitted s ≡ false))
   unfolding rte
-  of-rte-2 = laws.checked-2 s l (left s s m) (back-never 2 (λ h. omega arith) (λ h. omega arith))
+  of-rte-2 = laws.checked-2 s l (returned s s m) (back-never 2 (λ h. omega arith) (λ h. omega arith))
 
   pub of-rte-4 : (numbered (rte s l) ≡ 4) ↔ (Ready s l × SomeOutside m (returnAt s))
   unfolding rte
-  of-rte-4 = laws.iff-trans (laws.checked-on s l (left s s m) 4 (λ h. omega arith) (λ h. omega arith)) (laws.iff-and laws.iff-same (laws.answers-4 m (returnAt s) (left s s m) (laws.left-answers s s m)))
+  of-rte-4 = laws.iff-trans (laws.checked-on s l (returned s s m) 4 (λ h. omega arith) (λ h. omega arith)) (laws.iff-and laws.iff-same (laws.answers-4 m (returnAt s) (returned s s m) (laws.returned-answers s s m)))
 
   pub of-rte-0 : (numbered (rte s l) ≡ 0) ↔ (Ready s l × (SomeOutside m (returnAt s) → ⊥))
   unfolding rte
   of-rte-0 =
-      laws.iff-trans (laws.checked-on s l (left s s m) 0 (λ h. omega arith) (λ h. omega arith))
-      (laws.iff-and laws.iff-same (laws.answers-0 m (returnAt s) (left s s m) (laws.left-answers s s m)))
+      laws.iff-trans (laws.checked-on s l (returned s s m) 0 (λ h. omega arith) (λ h. omega arith))
+      (laws.iff-and laws.iff-same (laws.answers-0 m (returnAt s) (returned s s m) (laws.returned-answers s s m)))
 
   pub of-rte : OneOf (0 ∷ 1 ∷ 2 ∷ 4 ∷ []) (numbered (rte s l))
   unfolding rte
-  of-rte = one-of s l (returnAt s) (left s s m) (laws.left-answers s s m)
+  of-rte = one-of s l (returnAt s) (returned s s m) (laws.returned-answers s s m)
 
   -- a push and a pop
 

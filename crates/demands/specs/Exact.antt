@@ -24,7 +24,7 @@ use Rattle.manual.specs.declared.Level.{Level}
 use Rattle.manual.specs.declared.Level.the-variants.{Kept, To}
 use Rattle.manual.specs.declared.Size.the-variants.{Word}
 use Rattle.manual.specs.declared.Action.{Action}
-use Rattle.manual.specs.declared.Action.the-variants.{Nothing, Store, StoreMany, LoadMany, Enter, Return, Status, Stop, PushStatus, Halt, Other, Accumulate, SetAcc, SetExt, SetMacsr, SetMask, CopyAcc, ClearAcc, Refuse}
+use Rattle.manual.specs.declared.Action.the-variants.{Nothing, Store, StoreMany, LoadMany, Enter, Return, Status, Stop, PushStatus, Halt, SetOther, Accumulate, SetAcc, SetExt, SetMacsr, SetMask, CopyAcc, ClearAcc, Refuse}
 use Rattle.manual.specs.Word.{plus, minus}
 use Rattle.manual.specs.Registers.{addressOf}
 use Rattle.manual.specs.Memory.{Storage, Memory, storageOf, valueAt, numberAt}
@@ -94,7 +94,7 @@ vectorOf (Status v) = 0
 vectorOf (Stop v) = 0
 vectorOf (PushStatus v) = 0
 vectorOf Halt = 0
-vectorOf (Other v) = 0
+vectorOf (SetOther v) = 0
 vectorOf (Accumulate i scale sub x y) = 0
 vectorOf (SetAcc i v) = 0
 vectorOf (SetExt i v) = 0

@@ -23,18 +23,18 @@ use Rattle.manual.specs.Reply.{Outcome, completed}
 use Rattle.manual.specs.Memory.{Storage, Memory, numberAt}
 use Rattle.manual.specs.Admitted.{status, admitted}
 use Rattle.manual.specs.Lent.{Lent, memoryOf, lentOn, longest}
-use Rattle.manual.specs.Exceptions.{supervisor, twoStacks, handling, pcPlace, framePlace, handlerState}
+use Rattle.manual.specs.Exceptions.{supervisor, twoStacks, handlerSr, pcPlace, framePlace, handlerState}
 use Rattle.word.specs.WordLaws.{minus-below}
 use Rattle.memory.specs.MemoryLaws.{byte-store, length-store, value-lt}
 use Rattle.state.specs.AdmittedLaws.{admitted-status, pc-admitted}
 use Rattle.state.specs.FirstLaws.{first-admitted, first-kept}
-use Rattle.exceptions.specs.EntryAdmitted.{entered-admitted, left-admitted}
+use Rattle.exceptions.specs.EntryAdmitted.{entered-admitted, returned-admitted}
 use Rattle.demands.specs.Exact.{Bytes, Ready}
 use Rattle.demands.specs.AccessLaws.{byte-is}
 use Rattle.demands.specs.FirstReplies.{short-of}
 use Rattle.demands.specs.EntryLaws as laws
 use Rattle.demands.specs.ValueLaws as values
-use Rattle.demands.specs.Undone.{Values, Enters, Returns, AsLeft, Back, Undoes, Way, way, WayBack, way-back, swapsIn, spIn, turned, Left, way-left, Named, named, undoneState, sp-long, as-long, left-undone, undone-back, entry-is-undone}
+use Rattle.demands.specs.Undone.{Values, Enters, Returns, AsLeft, Back, Undoes, Way, way, WayBack, way-back, swapsIn, spIn, turned, Left, way-left, Named, named, undoneState, sp-long, as-long, returned-undone, undone-back, entry-is-undone}
 
 -- an entry that has not been returned from: the state, what was lent and the program counter that were handed to it, and its answer
 pub record Pending : Type 0 where
@@ -319,7 +319,7 @@ handler-others : (s : Cpu) (at : ℕ) (level : Level) (frame handler : ℕ) → 
 unfolding handlerState withStopped withPc
 handler-others s at level frame handler =
     let t : Cpu = turned (withPc at s) level in
-    let a : Others (withPc at s) t = after-others (swapsIn (withPc at s) level) (status (handling level (s .sr))) (withPc at s) in
+    let a : Others (withPc at s) t = after-others (swapsIn (withPc at s) level) (status (handlerSr level (s .sr))) (withPc at s) in
     let b : Others t (withAddress 7 frame t) = address-others frame t in
     record { but-a7 = b .but-a7 ∙ a .but-a7; vbr = b .vbr ∙ a .vbr; cacr = b .cacr ∙ a .cacr; emac = b .emac ∙ a .emac }
 
@@ -367,9 +367,9 @@ gone e es s l answer t returns =
     record {
       level = w .level;
       at = r .at;
-      is = r .is ∙ left-undone (e .state) (memoryOf (e .lent)) (w .at) (e .pc) (w .level) (w .vector) given q (w .small) (w .fits) _ (afterwards (e .lent) (e .answer)) x s l (t .typed .sixteen) (t .kept) s (r .at);
+      is = r .is ∙ returned-undone (e .state) (memoryOf (e .lent)) (w .at) (e .pc) (w .level) (w .vector) given q (w .small) (w .fits) _ (afterwards (e .lent) (e .answer)) x s l (t .typed .sixteen) (t .kept) s (r .at);
       typed = values.undone-values (e .state) (e .lent .storage) (w .level) (r .at) (e .pc) s (l .storage) given (t .typed) (r .at-long) (w .fits);
-      taken = rw (r .is) (left-admitted s (memoryOf l) (t .taken) (withPc (r .at) s) (pc-admitted (r .at) s (t .taken)));
+      taken = rw (r .is) (returned-admitted s (memoryOf l) (t .taken) (withPc (r .at) s) (pc-admitted (r .at) s (t .taken)));
       back = undone-back (e .state) (memoryOf (e .lent)) (w .at) (e .pc) (w .level) (w .vector) given q (w .small) (w .fits) _ (afterwards (e .lent) (e .answer)) x s l (t .typed .sixteen) (t .kept) (r .at);
       cacr = t .kept .same-cacr ∙ n .cacr-is;
       as-much = long;

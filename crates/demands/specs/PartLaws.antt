@@ -27,7 +27,7 @@ use Rattle.manual.specs.declared.Destination.{Destination}
 use Rattle.manual.specs.declared.Operand.{Operand}
 use Rattle.manual.specs.declared.Operand.the-variants.{Data, Address, Indirect, PostIncrement, PreDecrement, Displaced, Indexed, AbsoluteWord, AbsoluteLong, PcDisplaced, PcIndexed, Immediate, Zero}
 use Rattle.manual.specs.declared.Action.{Action}
-use Rattle.manual.specs.declared.Action.the-variants.{Nothing, Store, StoreMany, LoadMany, Enter, Return, Status, Stop, PushStatus, Halt, Other, Accumulate, SetAcc, SetExt, SetMacsr, SetMask, CopyAcc, ClearAcc, Refuse}
+use Rattle.manual.specs.declared.Action.the-variants.{Nothing, Store, StoreMany, LoadMany, Enter, Return, Status, Stop, PushStatus, Halt, SetOther, Accumulate, SetAcc, SetExt, SetMacsr, SetMask, CopyAcc, ClearAcc, Refuse}
 use Rattle.manual.specs.declared.Change.{Change}
 use Rattle.manual.specs.Word.{bytes}
 use Rattle.manual.specs.Memory.{Memory, storageOf, access, taken, firstFault, found, load, numberIn, numberAt}
@@ -50,7 +50,7 @@ refusing (Status v) = 0
 refusing (Stop v) = 0
 refusing (PushStatus v) = 0
 refusing Halt = 0
-refusing (Other v) = 0
+refusing (SetOther v) = 0
 refusing (Accumulate i scale sub x y) = 0
 refusing (SetAcc i v) = 0
 refusing (SetExt i v) = 0

@@ -22,7 +22,7 @@ use Rattle.manual.specs.declared.Answer.{Answer}
 use Rattle.manual.specs.declared.Told.{Told}
 use Rattle.manual.specs.declared.Popped.{Popped}
 use Rattle.manual.specs.declared.Action.{Action}
-use Rattle.manual.specs.declared.Action.the-variants.{Nothing, Store, StoreMany, LoadMany, Enter, Return, Status, Stop, PushStatus, Halt, Other, Accumulate, SetAcc, SetExt, SetMacsr, SetMask, CopyAcc, ClearAcc, Refuse}
+use Rattle.manual.specs.declared.Action.the-variants.{Nothing, Store, StoreMany, LoadMany, Enter, Return, Status, Stop, PushStatus, Halt, SetOther, Accumulate, SetAcc, SetExt, SetMacsr, SetMask, CopyAcc, ClearAcc, Refuse}
 use Rattle.manual.specs.declared.Change.{Change}
 use Rattle.manual.specs.Word.{plus, minus}
 use Rattle.manual.specs.Registers.{addressOf, applied}
@@ -31,7 +31,7 @@ use Rattle.manual.specs.Reply.{numberOf, isDone, Outcome, completed, unchanged,
 use Rattle.manual.specs.Admitted.{admitted}
 use Rattle.manual.specs.Lent.{Lent, memoryOf, firstRefusal, checked}
 use Rattle.manual.specs.Differences.{vectorPlace}
-use Rattle.manual.specs.Exceptions.{setSr, handling, pcPlace, framePlace, entered, left, levelTaken, masked, exception, interrupt, rte, push32, notPopped, popped, pop32, setSrCall, told, ipl, supervisorCall}
+use Rattle.manual.specs.Exceptions.{setSr, handlerSr, pcPlace, framePlace, entered, returned, levelTaken, masked, exception, interrupt, rte, push32, notPopped, popped, pop32, setSrCall, told, ipl, supervisorCall}
 use Rattle.manual.specs.EmacCalls.{accGetCall, accSetCall, accPhysCall, setAccPhysCall, setMacsrCall}
 use Rattle.manual.specs.Block.{fresh, notRead, saysAdmitted, stateAt, readBlock, blockOf, Stored, storeBlock}
 use Rattle.manual.specs.Image.{imageMemory, imageState, imageReply, imageBudget, imageBytes, Image, image, notLoaded, loadImage}
@@ -132,16 +132,16 @@ module _ (given : Cpu) (m : Memory) where
   entered-kept : (s : Cpu) (level : Level) (vector pc : ℕ) → Kept (entered given s level vector pc m)
   unfolding entered
   entered-kept s level vector pc =
-      let t : Cpu = setSr (handling level (s .sr)) s in
+      let t : Cpu = setSr (handlerSr level (s .sr)) s in
       let sp : ℕ = addressOf (t .r) 7 in
       accessing-all Kept given m fault-kept (access m (pcPlace sp) 4) _ λ high.
       accessing-all Kept given m fault-kept (access m (framePlace sp) 4) _ λ low.
       accessing-all Kept given m fault-kept (access m (vectorPlace (s .vbr) vector) 4) _ λ table.
       done-kept _ vector _
 
-  left-kept : (s : Cpu) → Kept (left given s m)
-  unfolding left
-  left-kept s =
+  returned-kept : (s : Cpu) → Kept (returned given s m)
+  unfolding returned
+  returned-kept s =
       let sp : ℕ = addressOf (s .r) 7 in
       loading-all Kept given m fault-kept (load m sp Long) _ λ w.
       loading-all Kept given m fault-kept (load m (plus sp 4) Long) _ λ pc.
@@ -154,12 +154,12 @@ module _ (given : Cpu) (m : Memory) where
   act-kept s (StoreMany mask a) = taking-all Kept given m fault-kept (accessMany 16 m mask a) _ (done-kept s 0 _)
   act-kept s (LoadMany mask a) = taking-all Kept given m fault-kept (accessMany 16 m mask a) _ (done-kept _ 0 _)
   act-kept s (Enter vector pc) = entered-kept s _ vector pc
-  act-kept s Return = left-kept s
+  act-kept s Return = returned-kept s
   act-kept s (Status v) = done-kept _ 0 _
   act-kept s (Stop v) = done-kept _ 0 _
   act-kept s (PushStatus v) = taking-all Kept given m fault-kept (storing m (minus (addressOf (s .r) 7) 4) Long) _ (done-kept _ 0 _)
   act-kept s Halt = done-kept _ 0 _
-  act-kept s (Other v) = done-kept _ 0 _
+  act-kept s (SetOther v) = done-kept _ 0 _
   act-kept s (Accumulate i scale sub x y) = done-kept _ 0 _
   act-kept s (SetAcc i v) = done-kept _ 0 _
   act-kept s (SetExt i v) = done-kept _ 0 _
@@ -202,7 +202,7 @@ module _ (given : Cpu) (l : Lent) where
 
   rte-kept : Unchanged given (l .storage) (rte given l)
   unfolding rte
-  rte-kept = checked-kept _ (left-kept given m given)
+  rte-kept = checked-kept _ (returned-kept given m given)
 
   push-kept : (v : ℕ) → Unchanged given (l .storage) (push32 given l v)
   unfolding push32

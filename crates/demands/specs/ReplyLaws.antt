@@ -18,7 +18,7 @@ use Rattle.manual.specs.declared.Access.the-variants.{Here, Not}
 use Rattle.manual.specs.declared.Stored.{Stored}
 use Rattle.manual.specs.declared.Stored.the-variants.{Done as Taken, Fault as NotTaken}
 use Rattle.manual.specs.declared.Action.{Action}
-use Rattle.manual.specs.declared.Action.the-variants.{Nothing, Store, StoreMany, LoadMany, Enter, Return, Status, Stop, PushStatus, Halt, Other, Accumulate, SetAcc, SetExt, SetMacsr, SetMask, CopyAcc, ClearAcc, Refuse}
+use Rattle.manual.specs.declared.Action.the-variants.{Nothing, Store, StoreMany, LoadMany, Enter, Return, Status, Stop, PushStatus, Halt, SetOther, Accumulate, SetAcc, SetExt, SetMacsr, SetMask, CopyAcc, ClearAcc, Refuse}
 use Rattle.manual.specs.declared.Change.{Change}
 use Rattle.manual.specs.Word.{bytes, plus, minus}
 use Rattle.manual.specs.Registers.{addressOf, applied}
@@ -28,7 +28,7 @@ use Rattle.manual.specs.Admitted.{admitted}
 use Rattle.manual.specs.Lent.{Lent, memoryOf, firstRefusal, checked}
 use Rattle.manual.specs.Differences.{vectorPlace}
 use Rattle.manual.specs.Change.{notCarried, refuse}
-use Rattle.manual.specs.Exceptions.{setSr, handling, pcPlace, framePlace, entered, left}
+use Rattle.manual.specs.Exceptions.{setSr, handlerSr, pcPlace, framePlace, entered, returned}
 use Rattle.instructions.specs.Perform.{statusPushed, act, perform}
 use Rattle.demands.specs.Accesses.{Wanted, wanted, Inside, Outside, SomeOutside, this, another, entryAt, returnAt, manyLongs, leaves}
 use Rattle.demands.specs.AccessLaws.{taken-or-not, fault-number, accessing-all, loading-all, taking-all}
@@ -236,7 +236,7 @@ module _ (given : Cpu) (m : Memory) where
 module _ (given s : Cpu) (level : Level) (vector pc : ℕ) (m : Memory) where
   -- A7 with the handler's status register
   abbrev pointer : ℕ
-  pointer = addressOf (setSr (handling level (s .sr)) s .r) 7
+  pointer = addressOf (setSr (handlerSr level (s .sr)) s .r) 7
 
   pub entered-answers : Answers m (entryAt s level vector) (entered given s level vector pc m)
   unfolding entered
@@ -247,9 +247,9 @@ module _ (given s : Cpu) (level : Level) (vector pc : ℕ) (m : Memory) where
       refl
 
 module _ (given s : Cpu) (m : Memory) where
-  pub left-answers : Answers m (returnAt s) (left given s m)
-  unfolding left load
-  left-answers =
+  pub returned-answers : Answers m (returnAt s) (returned given s m)
+  unfolding returned load
+  returned-answers =
       number-loading given m _ Long (access m (addressOf (s .r) 7) 4) _ λ w.
       number-loading given m _ Long (access m (plus (addressOf (s .r) 7) 4) 4) _ λ pc.
       refl
@@ -277,12 +277,12 @@ module _ (given s : Cpu) (m : Memory) where
   act-number (StoreMany regs a) = many-answers regs a _ refl
   act-number (LoadMany regs a) = many-answers regs a _ refl
   act-number (Enter vector pc) = entered-answers given s _ vector pc m
-  act-number Return = left-answers
+  act-number Return = returned-answers
   act-number (Status v) = refl
   act-number (Stop v) = refl
   act-number (PushStatus v) = store-answers given m (minus (addressOf (s .r) 7) 4) Long _ refl
   act-number Halt = refl
-  act-number (Other v) = refl
+  act-number (SetOther v) = refl
   act-number (Accumulate i scale sub x y) = refl
   act-number (SetAcc i v) = refl
   act-number (SetExt i v) = refl
@@ -304,7 +304,7 @@ refusal-leaves s (Status v) n = refl
 refusal-leaves s (Stop v) n = refl
 refusal-leaves s (PushStatus v) n = absurd (n refl)
 refusal-leaves s Halt n = refl
-refusal-leaves s (Other v) n = refl
+refusal-leaves s (SetOther v) n = refl
 refusal-leaves s (Accumulate i scale sub x y) n = refl
 refusal-leaves s (SetAcc i v) n = refl
 refusal-leaves s (SetExt i v) n = refl
@@ -346,9 +346,9 @@ module _ (given s : Cpu) (m : Memory) where
       accessing-all (Says vector) given m (fault-says vector) (access m (vectorPlace (s .vbr) vector) 4) _ λ table.
       λ e. refl
 
-  left-says : Says 0 (left given s m)
-  unfolding left
-  left-says =
+  returned-says : Says 0 (returned given s m)
+  unfolding returned
+  returned-says =
       loading-all (Says 0) given m (fault-says 0) (load m (addressOf (s .r) 7) Long) _ λ w.
       loading-all (Says 0) given m (fault-says 0) (load m (plus (addressOf (s .r) 7) 4) Long) _ λ pc.
       λ e. refl
@@ -363,12 +363,12 @@ module _ (given s : Cpu) (m : Memory) where
   act-says (StoreMany regs a) = taking-says (accessMany 16 m regs a) _ refl
   act-says (LoadMany regs a) = taking-says (accessMany 16 m regs a) _ refl
   act-says (Enter vector pc) = entered-says _ vector pc
-  act-says Return = left-says
+  act-says Return = returned-says
   act-says (Status v) = λ e. refl
   act-says (Stop v) = λ e. refl
   act-says (PushStatus v) = taking-says (storing m (minus (addressOf (s .r) 7) 4) Long) _ refl
   act-says Halt = λ e. refl
-  act-says (Other v) = λ e. refl
+  act-says (SetOther v) = λ e. refl
   act-says (Accumulate i scale sub x y) = λ e. refl
   act-says (SetAcc i v) = λ e. refl
   act-says (SetExt i v) = λ e. refl

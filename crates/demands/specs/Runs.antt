@@ -20,13 +20,13 @@ use Rattle.manual.specs.declared.Access.the-variants.{Here, Not}
 use Rattle.manual.specs.declared.Level.{Level}
 use Rattle.manual.specs.declared.Level.the-variants.{Kept}
 use Rattle.manual.specs.declared.Action.{Action}
-use Rattle.manual.specs.declared.Action.the-variants.{Nothing, Store, StoreMany, LoadMany, Enter, Return, Status, Stop, PushStatus, Halt, Other, Accumulate, SetAcc, SetExt, SetMacsr, SetMask, CopyAcc, ClearAcc, Refuse}
+use Rattle.manual.specs.declared.Action.the-variants.{Nothing, Store, StoreMany, LoadMany, Enter, Return, Status, Stop, PushStatus, Halt, SetOther, Accumulate, SetAcc, SetExt, SetMacsr, SetMask, CopyAcc, ClearAcc, Refuse}
 use Rattle.manual.specs.declared.Change.{Change}
 use Rattle.manual.specs.Word.{bytes, plus, minus}
 use Rattle.manual.specs.Registers.{addressOf, general, applied}
 use Rattle.manual.specs.Memory.{Storage, Memory, storageOf, storeAt, access, load, storing, storedIn, stored, accessMany, storedMany}
 use Rattle.manual.specs.Differences.{vectorPlace}
-use Rattle.manual.specs.Exceptions.{setSr, handling, pcPlace, framePlace, entered, left}
+use Rattle.manual.specs.Exceptions.{setSr, handlerSr, pcPlace, framePlace, entered, returned}
 use Rattle.manual.specs.Reply.{isDone, Outcome, unchanged}
 use Rattle.manual.specs.Lent.{Lent, memoryOf, lentOn, firstRefusal}
 use Rattle.instructions.specs.Perform.{statusPushed, act, perform}
@@ -119,16 +119,16 @@ module _ (K : Storage → Type 0) (keeps : (b : Storage) (a n v : ℕ) → K b �
     entered-kept : (s : Cpu) (level : Level) (vector pc : ℕ) → Keeps (entered given s level vector pc m)
     unfolding entered
     entered-kept s level vector pc =
-        let t : Cpu = setSr (handling level (s .sr)) s in
+        let t : Cpu = setSr (handlerSr level (s .sr)) s in
         let sp : ℕ = addressOf (t .r) 7 in
         accessing-all Keeps given m (λ x. h) (access m (pcPlace sp) 4) _ λ high.
         accessing-all Keeps given m (λ x. h) (access m (framePlace sp) 4) _ λ low.
         accessing-all Keeps given m (λ x. h) (access m (vectorPlace (s .vbr) vector) 4) _ λ table.
         keeps _ low 4 _ (keeps (storageOf m) high 4 pc h)
 
-    left-kept : (s : Cpu) → Keeps (left given s m)
-    unfolding left
-    left-kept s =
+    returned-kept : (s : Cpu) → Keeps (returned given s m)
+    unfolding returned
+    returned-kept s =
         let sp : ℕ = addressOf (s .r) 7 in
         loading-all Keeps given m (λ x. h) (load m sp Long) _ λ w.
         loading-all Keeps given m (λ x. h) (load m (plus sp 4) Long) _ λ pc.
@@ -141,14 +141,14 @@ module _ (K : Storage → Type 0) (keeps : (b : Storage) (a n v : ℕ) → K b �
     act-kept s (StoreMany mask a) = taking-all Keeps given m (λ x. h) (accessMany 16 m mask a) _ (many-kept 16 (s .r) 0 mask a m h)
     act-kept s (LoadMany mask a) = taking-all Keeps given m (λ x. h) (accessMany 16 m mask a) _ h
     act-kept s (Enter vector pc) = entered-kept s Kept vector pc
-    act-kept s Return = left-kept s
+    act-kept s Return = returned-kept s
     act-kept s (Status v) = h
     act-kept s (Stop v) = h
     act-kept s (PushStatus v) =
         let sp : ℕ = minus (addressOf (s .r) 7) 4 in
         taking-all Keeps given m (λ x. h) (storing m sp Long) _ (stored-kept m sp Long (s .sr) h)
     act-kept s Halt = h
-    act-kept s (Other v) = h
+    act-kept s (SetOther v) = h
     act-kept s (Accumulate i scale sub x y) = h
     act-kept s (SetAcc i v) = h
     act-kept s (SetExt i v) = h

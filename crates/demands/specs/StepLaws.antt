@@ -24,7 +24,7 @@ use Rattle.manual.specs.Memory.{Memory, access, taken, numberAt}
 use Rattle.manual.specs.Change.{acting, enterAfter, enter, refused, refuse}
 use Rattle.manual.specs.Reply.{Outcome, unchanged, faultReply}
 use Rattle.manual.specs.Lent.{Lent, memoryOf}
-use Rattle.manual.specs.Exceptions.{supervisor, entered, left}
+use Rattle.manual.specs.Exceptions.{supervisor, entered, returned}
 use Rattle.instructions.specs.Rows.{firstRow, rowOf, placeIn}
 use Rattle.instructions.specs.Line4.{line4, trap, rte}
 use Rattle.instructions.specs.Perform.{perform}
@@ -52,7 +52,7 @@ pub perform-enter : (s : Cpu) (vector pc : ℕ) (m : Memory) → perform s (ente
 unfolding perform enter enterAfter acting
 perform-enter s vector pc m = rw (applied-acting s pc (Enter vector pc))
 
-pub perform-return : (s : Cpu) (next : ℕ) (m : Memory) → perform s (acting (s .sr) next noWrite Return) m ≡ left s (withPc next s) m
+pub perform-return : (s : Cpu) (next : ℕ) (m : Memory) → perform s (acting (s .sr) next noWrite Return) m ≡ returned s (withPc next s) m
 unfolding perform acting
 perform-return s next m = rw (applied-acting s next Return)
 
@@ -145,7 +145,7 @@ module _ (s : Cpu) (l : Lent) where
       ∙ perform-enter s (32 + n) (plus (s .pc) 2) m
 
   pub step-rte : Ready s l → s .stopped ≡ false → Inside m (s .pc) 2 → numberAt m (s .pc) Word ≡ 0x4E73 → supervisor (s .sr) ≡ true
-      → step s l ≡ left s (withPc (plus (s .pc) 2) s) m
+      → step s l ≡ returned s (withPc (plus (s .pc) 2) s) m
   step-rte ready awake i w h =
       step-on s l ready awake
       ∙ ap (λ (c : Change). perform s c m) (fetched (s .r) (s .pc) (s .sr) (s .other) (s .emac) m 0x4E73 i w ∙ rte-word (s .r) (s .pc) (s .sr) (s .other) (s .emac) m h)

@@ -24,8 +24,8 @@ use Rattle.manual.specs.Admitted.{admitted}
 use Rattle.manual.specs.Lent.{Lent, memoryOf, lentOn, firstRefusal}
 use Rattle.rows.specs.TableLaws.{allBelow, below}
 use Rattle.instructions.specs.Rows.{firstRow, rowOf, placeIn}
-use Rattle.instructions.specs.Line0.{bitReverse, line0}
-use Rattle.instructions.specs.Line4.{nothing, line4}
+use Rattle.instructions.specs.Line0.{bitrev, line0}
+use Rattle.instructions.specs.Line4.{nop, line4}
 use Rattle.instructions.specs.Perform.{perform}
 use Rattle.instructions.specs.Step.{instruction, step}
 use Rattle.instructions.specs.Run.{RunOutcome, run}
@@ -266,11 +266,11 @@ bitrev-row : (r : ℕ) → r < 8 → rowOf (0x00C0 + r) ≡ firstRow 0
 bitrev-row r h = eqb→eq _ _ (below (λ r. eqb (rowOf (0x00C0 + r)) (firstRow 0)) 8 bitrev-rows r h)
 
 pub of-nop : (s : Cpu) (m : Memory) → numberAt m (s .pc) Word ≡ 0x4E71 → accesses s m ≡ wanted (s .pc) 2 ∷ []
-unfolding accesses reads reads4 instruction line4 nothing jump done placeIn
+unfolding accesses reads reads4 instruction line4 nop jump done placeIn
 of-nop s m e = rw (e, nop-row)
 
 pub of-bitrev : (s : Cpu) (m : Memory) (r : ℕ) → r < 8 → numberAt m (s .pc) Word ≡ 0x00C0 + r → accesses s m ≡ wanted (s .pc) 2 ∷ []
-unfolding accesses reads reads0 instruction line0 bitReverse done placeIn
+unfolding accesses reads reads0 instruction line0 bitrev done placeIn
 of-bitrev s m r h e =
     let line : (0x00C0 + r) / 0x1000 % 16 ≡ 0 = omega arith in
     rw (e, line, bitrev-row r h)

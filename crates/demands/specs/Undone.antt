@@ -23,7 +23,7 @@ use Rattle.manual.specs.Reply.{Outcome, completed, unchanged}
 use Rattle.manual.specs.Admitted.{status, admitted}
 use Rattle.manual.specs.Lent.{Lent, memoryOf, lentOn}
 use Rattle.manual.specs.Differences.{frameBytes, vectorPlace}
-use Rattle.manual.specs.Exceptions.{supervisor, twoStacks, setSr, handling, frameLong, pcPlace, framePlace, handlerState, entered, returned, left, levelTaken, masked, exception, interrupt, rte}
+use Rattle.manual.specs.Exceptions.{supervisor, twoStacks, setSr, handlerSr, frameLong, pcPlace, framePlace, handlerState, entered, returnState, returned, levelTaken, masked, exception, interrupt, rte}
 use Rattle.instructions.specs.Step.{step}
 use Rattle.word.specs.WordLaws.{plus-below}
 use Rattle.memory.specs.MemoryLaws.{length-store}
@@ -145,7 +145,7 @@ way s l pc entry typed (by-trap n h w) e =
 pub record WayBack (s : Cpu) (l : Lent) (answer : Outcome) : Type 0 where
   pub at : ℕ
   pub at-long : at < 2 ^ 32
-  pub is : answer ≡ left s (withPc at s) (memoryOf l)
+  pub is : answer ≡ returned s (withPc at s) (memoryOf l)
 
 pub way-back : (s : Cpu) (l : Lent) (answer : Outcome) → Values s (l .storage) → Ready s l → supervisor (s .sr) ≡ true → Returns s l answer → WayBack s l answer
 unfolding rte
@@ -157,14 +157,14 @@ way-back s l answer typed ready h (by-word awake i w) =
 -- ---- what an entry leaves: b says whether the pointers change places, sp is then A7
 
 abbrev pub swapsIn : Cpu → Level → Bool
-swapsIn s level = laws.swaps (handling level (s .sr)) s
+swapsIn s level = laws.swaps (handlerSr level (s .sr)) s
 
 abbrev pub spIn : Cpu → Level → ℕ
 spIn s level = cond (swapsIn s level) (s .other) (addressOf (s .r) 7)
 
 -- the state with the handler's status register
 abbrev pub turned : Cpu → Level → Cpu
-turned s level = laws.after (swapsIn s level) (status (handling level (s .sr))) s
+turned s level = laws.after (swapsIn s level) (status (handlerSr level (s .sr))) s
 
 pub record Left (s : Cpu) (m : Memory) (at pc : ℕ) (level : Level) (vector : ℕ) (s₁ : Cpu) (b₁ : Storage) : Type 0 where
   pub handler : ℕ
@@ -181,7 +181,7 @@ pub entry-left : (given s : Cpu) (at : ℕ) (level : Level) (vector pc : ℕ) (m
 unfolding withPc
 entry-left given s at level vector pc m n e =
     let t : Cpu = withPc at s in
-    let v : ℕ = handling level (s .sr) in
+    let v : ℕ = handlerSr level (s .sr) in
     let sp : ℕ = addressOf (setSr v t .r) 7 in
     let o : Outcome = entered given t level vector pc m in
     let w : laws.Went t m vector pc (setSr v t) sp o = laws.went given t level vector pc m e in
@@ -216,7 +216,7 @@ pub named : (s : Cpu) (m : Memory) (at pc : ℕ) (level : Level) (vector : ℕ) 
 unfolding handlerState withStopped withAddress withPc
 named s m at pc level vector s₁ b₁ n went =
     let b : Bool = swapsIn s level in
-    let v : ℕ = status (handling level (s .sr)) in
+    let v : ℕ = status (handlerSr level (s .sr)) in
     let t : Cpu = withPc at s in
     let tn : length (turned t level .r) ≡ 16 = laws.long-after v t b ∙ n in
     record {
@@ -250,9 +250,9 @@ module _ (s : Cpu) (m : Memory) (at pc : ℕ) (level : Level) (vector : ℕ) (ty
   pub as-long : length b₂ ≡ length (storageOf m)
   as-long = kept .as-much ∙ ap length (went .storage-is) ∙ simp length-store
 
-  pub left-undone : (given : Cpu) (at₂ : ℕ) → left given (withPc at₂ s₂) (memoryOf l₂) ≡ completed (undoneState s level at₂ pc s₂) 0 b₂
-  unfolding returned withPc withAddress
-  left-undone given at₂ =
+  pub returned-undone : (given : Cpu) (at₂ : ℕ) → returned given (withPc at₂ s₂) (memoryOf l₂) ≡ completed (undoneState s level at₂ pc s₂) 0 b₂
+  unfolding returnState withPc withAddress
+  returned-undone given at₂ =
       let n : Named s level s₁ = named s m at pc level vector s₁ (l₁ .storage) (typed .sixteen) went in
       let sp : ℕ = spIn s level in
       let f : sp < 2 ^ 32 = sp-long s (storageOf m) level typed in
@@ -309,7 +309,7 @@ entry-is-undone s l pc entry typed enters e s₂ l₂ answer typed₂ taken₂ k
     let n : Named s (w .level) (entry .stepped .cpu) = named s m (w .at) pc (w .level) (w .vector) _ _ (typed .sixteen) x in
     let r : WayBack s₂ l₂ answer = way-back s₂ l₂ answer typed₂ ready₂ (kept .same-s ∙ n .in-s) returns in
     let b : answer ≡ completed (undoneState s (w .level) (r .at) pc s₂) 0 (l₂ .storage) =
-    r .is ∙ left-undone s m (w .at) pc (w .level) (w .vector) typed q (w .small) (w .fits) _ l₁ x s₂ l₂ n₂ kept s₂ (r .at)
+    r .is ∙ returned-undone s m (w .at) pc (w .level) (w .vector) typed q (w .small) (w .fits) _ l₁ x s₂ l₂ n₂ kept s₂ (r .at)
     in
     record {
       done = ap (λ (x : Outcome). x .stepped .reply) b;

@@ -10,7 +10,7 @@ use Rattle.manual.specs.declared.Level.{Level}
 use Rattle.manual.specs.Registers.{addressOf, withAddress, withPc, withSr, withOther, withStopped}
 use Rattle.manual.specs.Memory.{Storage, storeAt}
 use Rattle.manual.specs.Admitted.{status}
-use Rattle.manual.specs.Exceptions.{handling, handlerState}
+use Rattle.manual.specs.Exceptions.{handlerSr, handlerState}
 use Rattle.demands.specs.Exact.{Bytes}
 use Rattle.demands.specs.EntryLaws as laws
 use Rattle.demands.specs.Undone.{Values, swapsIn, spIn, turned, undoneState, sp-long}
@@ -87,7 +87,7 @@ pub handler-values : (s : Cpu) (m : Storage) (at : ℕ) (level : Level) (frame h
     → Values (handlerState (turned (withPc at s) level) frame handler) m
 unfolding handlerState
 handler-values s m at level frame handler typed p f h =
-    let t : Values (turned (withPc at s) level) m = after-values _ m (pc-values s m typed at p) (swapsIn (withPc at s) level) (status (handling level (withPc at s .sr))) (status-word _) in
+    let t : Values (turned (withPc at s) level) m = after-values _ m (pc-values s m typed at p) (swapsIn (withPc at s) level) (status (handlerSr level (withPc at s .sr))) (status-word _) in
     stopped-values _ m (pc-values _ m (address-values _ m t frame f) handler h) false
 
 pub framed-bytes : (m : Storage) (sp vector sr pc : ℕ) → Bytes m → Bytes (laws.frameOn m sp vector sr pc)

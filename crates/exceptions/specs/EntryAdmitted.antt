@@ -14,7 +14,7 @@ use Rattle.manual.specs.declared.Reply.{Reply}
 use Rattle.manual.specs.Registers.{addressOf, withAddress}
 use Rattle.manual.specs.Reply.{Outcome, refusal, faultReply, accessing, loading, taking}
 use Rattle.manual.specs.Admitted.{emacAdmitted, admitted}
-use Rattle.manual.specs.Exceptions.{setSr, handling, pcPlace, framePlace, handlerState, entered, returned, left}
+use Rattle.manual.specs.Exceptions.{setSr, handlerSr, pcPlace, framePlace, handlerState, entered, returnState, returned}
 use Rattle.manual.specs.Differences.{vectorPlace}
 use Rattle.manual.specs.Memory.{Memory, access, load}
 use Rattle.manual.specs.Word.{plus}
@@ -25,9 +25,9 @@ pub handler-admitted : (t : Cpu) (frame handler : ℕ) → admitted t ≡ true �
 unfolding handlerState
 handler-admitted t frame handler h = stopped-admitted false _ (pc-admitted handler _ (address-admitted 7 frame t h))
 
-pub returned-admitted : (s : Cpu) (sp w pc : ℕ) → emacAdmitted (s .emac) ≡ true → admitted (returned s sp w pc) ≡ true
-unfolding returned withAddress
-returned-admitted s sp w pc e = pc-admitted pc _ (set-sr-admitted w _ e)
+pub return-state-admitted : (s : Cpu) (sp w pc : ℕ) → emacAdmitted (s .emac) ≡ true → admitted (returnState s sp w pc) ≡ true
+unfolding returnState withAddress
+return-state-admitted s sp w pc e = pc-admitted pc _ (set-sr-admitted w _ e)
 
 pub refusal-admitted : (given : Cpu) (n : Reply) → admitted given ≡ true → admitted (refusal given n .cpu) ≡ true
 unfolding refusal
@@ -51,17 +51,17 @@ module _ (given : Cpu) (m : Memory) (k : admitted given ≡ true) where
   pub entered-admitted : (s : Cpu) (level : Level) (vector pc : ℕ) → admitted s ≡ true → admitted (entered given s level vector pc m .stepped .cpu) ≡ true
   unfolding entered
   entered-admitted s level vector pc h =
-      let t : Cpu = setSr (handling level (s .sr)) s in
+      let t : Cpu = setSr (handlerSr level (s .sr)) s in
       let sp : ℕ = addressOf (t .r) 7 in
       accessing-admitted (access m (pcPlace sp) 4) _ λ high.
       accessing-admitted (access m (framePlace sp) 4) _ λ low.
       accessing-admitted (access m (vectorPlace (s .vbr) vector) 4) _ λ table.
-      handler-admitted t _ _ (set-sr-admitted (handling level (s .sr)) s (admitted-emac s h))
+      handler-admitted t _ _ (set-sr-admitted (handlerSr level (s .sr)) s (admitted-emac s h))
 
-  pub left-admitted : (s : Cpu) → admitted s ≡ true → admitted (left given s m .stepped .cpu) ≡ true
-  unfolding left
-  left-admitted s h =
+  pub returned-admitted : (s : Cpu) → admitted s ≡ true → admitted (returned given s m .stepped .cpu) ≡ true
+  unfolding returned
+  returned-admitted s h =
       let sp : ℕ = addressOf (s .r) 7 in
       loading-admitted (load m sp Long) _ λ w.
       loading-admitted (load m (plus sp 4) Long) _ λ pc.
-      returned-admitted s sp w pc (admitted-emac s h)
+      return-state-admitted s sp w pc (admitted-emac s h)

@@ -12,7 +12,7 @@ use memory::load;
 use memory::long_at;
 use memory::put_long;
 use state::replies::fault_reply;
-use state::status::handling;
+use state::status::handler_sr;
 use state::status::with_status;
 use word::registers::address;
 use word::registers::with_address;
@@ -25,7 +25,7 @@ ghost use Prim.Native.Nat.{_+_, _*_, _/_, _%_, _^_};
 ghost use Rattle.manual.specs.Memory.{mapped};
 ghost use Rattle.manual.specs.Reply.{outcome, refusal as refusalOf, faultReply};
 ghost use Rattle.manual.specs.Differences.{frameBytes};
-ghost use Rattle.manual.specs.Exceptions.{frameLong, framed, handlerState, entered as enteredOf, returned as returnedOf, left as leftOf};
+ghost use Rattle.manual.specs.Exceptions.{frameLong, framed, handlerState, entered as enteredOf, returnState as returnStateOf, returned as returnedOf};
 
 // Refused: the registers as given, and no vector.
 pub fn refusal(given: Cpu, reply: Reply) -> Stepped
@@ -68,7 +68,7 @@ fn handler_state(cpu: Cpu, frame: u32, handler: u32) -> Cpu
 pub fn entered(given: Cpu, cpu: Cpu, level: Level, vector: u8, pc: u32, mem: &mut [u8]) -> Stepped
     ensures { λ r. ⌜ outcome r (now (mem .exit)) ≡ enteredOf given cpu level vector pc (mapped (now (mem .entry))) ⌝ }
 {
-    let then = with_status(cpu, handling(level, cpu.sr) as u32);
+    let then = with_status(cpu, handler_sr(level, cpu.sr) as u32);
     let g = then.r;
     let sp = address(&g, 7);
     let above = minus(sp / 4 * 4, 4);
@@ -108,16 +108,16 @@ fn frame_bytes(format: u32) -> u32
     8
 }
 
-fn returned(cpu: Cpu, sp: u32, w: u32, pc: u32) -> Cpu
-    ensures { λ s. ⌜ s ≡ returnedOf cpu sp w pc ⌝ }
+fn return_state(cpu: Cpu, sp: u32, w: u32, pc: u32) -> Cpu
+    ensures { λ s. ⌜ s ≡ returnStateOf cpu sp w pc ⌝ }
 {
     let up = frame_bytes(w / 0x1000_0000);
     with_pc(with_status(with_address(cpu, 7, plus(sp, up)), w), pc)
 }
 
 // Return from an exception, or its refusal.
-pub fn left(given: Cpu, cpu: Cpu, mem: &[u8]) -> Stepped
-    ensures { λ r. ⌜ outcome r (now (mem .entry)) ≡ leftOf given cpu (mapped (now (mem .entry))) ⌝ }
+pub fn returned(given: Cpu, cpu: Cpu, mem: &[u8]) -> Stepped
+    ensures { λ r. ⌜ outcome r (now (mem .entry)) ≡ returnedOf given cpu (mapped (now (mem .entry))) ⌝ }
 {
     let g = cpu.r;
     let sp = address(&g, 7);
@@ -129,7 +129,7 @@ pub fn left(given: Cpu, cpu: Cpu, mem: &[u8]) -> Stepped
         Got::Value(pc) => pc,
         Got::Fault(x) => return faulted(given, x),
     };
-    let next = returned(cpu, sp, w, pc);
+    let next = return_state(cpu, sp, w, pc);
     Stepped {
         reply: Reply::Done,
         vector: 0,

@@ -25,16 +25,16 @@ use Rattle.manual.specs.Change.{done, reading, put, illegal, putTo}
 use Rattle.instructions.specs.Rows.{firstRow, placeIn}
 
 -- BITREV Dx: no condition codes
-unfoldable pub bitReverse : List ℕ → ℕ → ℕ → ℕ → Change
-bitReverse g at sr op = done (plus at 2) (keptCodes sr) noWrite (writeData op (reversedBits 32 (dataOf g op)))
+unfoldable pub bitrev : List ℕ → ℕ → ℕ → ℕ → Change
+bitrev g at sr op = done (plus at 2) (keptCodes sr) noWrite (writeData op (reversedBits 32 (dataOf g op)))
 
 -- BYTEREV Dx: no condition codes
-unfoldable pub byteReverse : List ℕ → ℕ → ℕ → ℕ → Change
-byteReverse g at sr op = done (plus at 2) (keptCodes sr) noWrite (writeData op (reversedBytes (dataOf g op)))
+unfoldable pub byterev : List ℕ → ℕ → ℕ → ℕ → Change
+byterev g at sr op = done (plus at 2) (keptCodes sr) noWrite (writeData op (reversedBytes (dataOf g op)))
 
 -- FF1 Dx: how many zeros stand above the highest one, 32 for zero; the condition codes are those of the old value
-unfoldable pub findFirstOne : List ℕ → ℕ → ℕ → ℕ → Change
-findFirstOne g at sr op =
+unfoldable pub ff1 : List ℕ → ℕ → ℕ → ℕ → Change
+ff1 g at sr op =
     let v : ℕ = dataOf g op in
     done (plus at 2) (moveCodes Long v sr) noWrite (writeData op (leadingZeros 32 v))
 
@@ -55,8 +55,8 @@ sumImmediate add g at m op =
     done (plus pc 4) (sumCodes r) noWrite (writeData op (r .value))
 
 -- CMPI #imm,Dx
-unfoldable pub compareImmediate : Size → List ℕ → ℕ → ℕ → Memory → ℕ → Change
-compareImmediate z g at sr m op =
+unfoldable pub cmpi : Size → List ℕ → ℕ → ℕ → Memory → ℕ → Change
+cmpi z g at sr m op =
     let pc : ℕ = plus at 2 in
     reading (value g m pc Immediate z) λ v.
     done (plus pc (extension Immediate z)) (compareCodes sr (subtracted z v (dataOf g op) false)) noWrite noWrite
@@ -94,17 +94,17 @@ bitByImmediate g at sr m op =
 unfoldable pub line0 : ℕ → List ℕ → ℕ → ℕ → Memory → ℕ → Change
 line0 row g at sr m op =
     getD
-    (bitReverse g at sr op ∷
-    byteReverse g at sr op ∷
-    findFirstOne g at sr op ∷
+    (bitrev g at sr op ∷
+    byterev g at sr op ∷
+    ff1 g at sr op ∷
     logicImmediate Or g at sr m op ∷
     logicImmediate And g at sr m op ∷
     sumImmediate false g at m op ∷
     sumImmediate true g at m op ∷
     logicImmediate Eor g at sr m op ∷
-    compareImmediate Byte g at sr m op ∷
-    compareImmediate Word g at sr m op ∷
-    compareImmediate Long g at sr m op ∷
+    cmpi Byte g at sr m op ∷
+    cmpi Word g at sr m op ∷
+    cmpi Long g at sr m op ∷
     bitByImmediate g at sr m op ∷
     bitByRegister g at sr m op ∷
     [])

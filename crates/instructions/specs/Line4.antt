@@ -1,7 +1,7 @@
 -- Line 4: miscellaneous. The manual: LEA, PEA, JSR, JMP, RTS, RTE, STOP, HALT, PULSE, NOP, TRAP, LINK, UNLK, MOVEM, MOVE to and
 -- from SR, CCR and USP, STRLDSR, EXT, EXTB, SWAP, SATS, NEG, NEGX, NOT, CLR, TST, TAS, MULS.L, MULU.L, DIVS.L, DIVU.L, REMS.L, REMU.L.
 use Prim.Native.Nat.{ℕ, _+_, _-_, _*_, _/_, _%_, _^_}
-use mathlib.Core.Bool.{Bool, true, false, cond, not}
+use mathlib.Core.Bool.{Bool, true, false, cond}
 use mathlib.Core.List.{List, [], _∷_}
 use lib.Dec.{eqb, ltb}
 use lib.ListN.{getD}
@@ -16,7 +16,7 @@ use Rattle.manual.specs.declared.Change.{Change}
 use Rattle.manual.specs.declared.Sum.{Sum}
 use Rattle.manual.specs.declared.Quotient.{Quotient}
 use Rattle.manual.specs.declared.Action.{Action}
-use Rattle.manual.specs.declared.Action.the-variants.{Return, Status, Stop, PushStatus, Halt, Other, StoreMany, LoadMany}
+use Rattle.manual.specs.declared.Action.the-variants.{Return, Status, Stop, PushStatus, Halt, SetOther, StoreMany, LoadMany}
 use Rattle.manual.specs.Word.{plus, minus, cut, merged, signExtended, sizeOf}
 use Rattle.manual.specs.Bits.{withBit}
 use Rattle.manual.specs.Multiply.{longProduct, signedLongProduct}
@@ -36,8 +36,8 @@ named op = operand (op / 8 % 8) (op % 8)
 -- ---- control
 
 -- NOP and PULSE
-unfoldable pub nothing : ℕ → ℕ → Change
-nothing at sr = jump sr (plus at 2)
+unfoldable pub nop : ℕ → ℕ → Change
+nop at sr = jump sr (plus at 2)
 
 -- LEA: the address itself into An
 unfoldable pub lea : List ℕ → ℕ → ℕ → Memory → ℕ → Change
@@ -117,32 +117,32 @@ stldsr at sr m =
 unfoldable pub halt : ℕ → ℕ → Change
 halt at sr = acting sr (plus at 2) noWrite Halt
 
-unfoldable pub toUsp : List ℕ → ℕ → ℕ → ℕ → Change
-toUsp g at sr op = cond (supervisor sr) (acting sr (plus at 2) noWrite (Other (addressOf g op))) (privilege at sr)
+unfoldable pub moveToUsp : List ℕ → ℕ → ℕ → ℕ → Change
+moveToUsp g at sr op = cond (supervisor sr) (acting sr (plus at 2) noWrite (SetOther (addressOf g op))) (privilege at sr)
 
-unfoldable pub fromUsp : ℕ → ℕ → ℕ → ℕ → Change
-fromUsp at sr other op = cond (supervisor sr) (done (plus at 2) (keptCodes sr) noWrite (writeAddress op other)) (privilege at sr)
+unfoldable pub moveFromUsp : ℕ → ℕ → ℕ → ℕ → Change
+moveFromUsp at sr other op = cond (supervisor sr) (done (plus at 2) (keptCodes sr) noWrite (writeAddress op other)) (privilege at sr)
 
 -- 15. MOVE from SR to anything but Dn is a violation in user mode. The manual: illegal
-unfoldable pub fromSr : List ℕ → ℕ → ℕ → ℕ → Change
-fromSr g at sr op =
+unfoldable pub moveFromSr : List ℕ → ℕ → ℕ → ℕ → Change
+moveFromSr g at sr op =
     cond (supervisor sr)
     (cond (eqb (op / 8 % 8) 0)
     (done (plus at 2) (keptCodes sr) noWrite (writeData op (merged Word (dataOf g op) sr)))
     (illegal at sr))
     (privilege at sr)
 
-unfoldable pub toSr : List ℕ → ℕ → ℕ → Memory → ℕ → Change
-toSr g at sr m op =
+unfoldable pub moveToSr : List ℕ → ℕ → ℕ → Memory → ℕ → Change
+moveToSr g at sr m op =
     let from : Source = source g m (plus at 2) op Word in
     reading (from .got) λ v.
     cond (supervisor sr) (acting sr (from .next) (from .moved) (Status v)) (enterAfter (from .moved) sr 8 at)
 
-unfoldable pub fromCcr : List ℕ → ℕ → ℕ → ℕ → Change
-fromCcr g at sr op = done (plus at 2) (keptCodes sr) noWrite (writeData op (merged Word (dataOf g op) (keptCodes sr)))
+unfoldable pub moveFromCcr : List ℕ → ℕ → ℕ → ℕ → Change
+moveFromCcr g at sr op = done (plus at 2) (keptCodes sr) noWrite (writeData op (merged Word (dataOf g op) (keptCodes sr)))
 
-unfoldable pub toCcr : List ℕ → ℕ → Memory → ℕ → Change
-toCcr g at m op =
+unfoldable pub moveToCcr : List ℕ → ℕ → Memory → ℕ → Change
+moveToCcr g at m op =
     let from : Source = source g m (plus at 2) op Word in
     reading (from .got) λ v.
     done (from .next) (keptCodes v) (from .moved) noWrite
@@ -154,8 +154,8 @@ toCcr g at m op =
 unfoldable pub many : Bool → ℕ → ℕ → Action
 many toMemory mask a = cond toMemory (StoreMany mask a) (LoadMany mask a)
 
-unfoldable pub moveMany : Bool → List ℕ → ℕ → ℕ → Memory → ℕ → Change
-moveMany toMemory g at sr m op =
+unfoldable pub movem : Bool → List ℕ → ℕ → ℕ → Memory → ℕ → Change
+movem toMemory g at sr m op =
     let pc : ℕ = plus at 2 in
     let a : ℕ = addressOf g op in
     reading (load m pc Word) λ mask.
@@ -169,20 +169,20 @@ moveMany toMemory g at sr m op =
 -- ---- one data register
 
 -- EXTB.L: a byte to a long
-unfoldable pub extendByte : List ℕ → ℕ → ℕ → ℕ → Change
-extendByte g at sr op =
+unfoldable pub extb : List ℕ → ℕ → ℕ → ℕ → Change
+extb g at sr op =
     let v : ℕ = signExtended Byte (dataOf g op) in
     done (plus at 2) (moveCodes Long v sr) noWrite (writeData op v)
 
 -- EXT.W: a byte to a word
-unfoldable pub extendToWord : List ℕ → ℕ → ℕ → ℕ → Change
-extendToWord g at sr op =
+unfoldable pub extW : List ℕ → ℕ → ℕ → ℕ → Change
+extW g at sr op =
     let v : ℕ = cut Word (signExtended Byte (dataOf g op)) in
     done (plus at 2) (moveCodes Word v sr) noWrite (writeData op (merged Word (dataOf g op) v))
 
 -- EXT.L: a word to a long
-unfoldable pub extendToLong : List ℕ → ℕ → ℕ → ℕ → Change
-extendToLong g at sr op =
+unfoldable pub extL : List ℕ → ℕ → ℕ → ℕ → Change
+extL g at sr op =
     let v : ℕ = signExtended Word (dataOf g op) in
     done (plus at 2) (moveCodes Long v sr) noWrite (writeData op v)
 
@@ -196,51 +196,51 @@ swap g at sr op =
 unfoldable pub saturated : ℕ → ℕ → ℕ
 saturated sr v = cond (flagV sr) (cond (ltb v 0x8000_0000) 0x8000_0000 0x7FFF_FFFF) v
 
-unfoldable pub saturate : List ℕ → ℕ → ℕ → ℕ → Change
-saturate g at sr op =
+unfoldable pub sats : List ℕ → ℕ → ℕ → ℕ → Change
+sats g at sr op =
     let v : ℕ = saturated sr (dataOf g op) in
     done (plus at 2) (moveCodes Long v sr) noWrite (writeData op v)
 
-unfoldable pub negate : List ℕ → ℕ → ℕ → Change
-negate g at op =
+unfoldable pub neg : List ℕ → ℕ → ℕ → Change
+neg g at op =
     let r : Sum = subtracted Long (dataOf g op) 0 false in
     done (plus at 2) (sumCodes r) noWrite (writeData op (r .value))
 
-unfoldable pub negateExtended : List ℕ → ℕ → ℕ → ℕ → Change
-negateExtended g at sr op =
+unfoldable pub negx : List ℕ → ℕ → ℕ → ℕ → Change
+negx g at sr op =
     let r : Sum = subtracted Long (dataOf g op) 0 (flagX sr) in
     done (plus at 2) (extendedCodes sr r) noWrite (writeData op (r .value))
 
-unfoldable pub complement : List ℕ → ℕ → ℕ → ℕ → Change
-complement g at sr op =
+unfoldable pub not : List ℕ → ℕ → ℕ → ℕ → Change
+not g at sr op =
     let v : ℕ = 0xFFFF_FFFF - dataOf g op in
     done (plus at 2) (moveCodes Long v sr) noWrite (writeData op v)
 
 -- ---- one operand
 
 -- CLR: the operand is not read
-unfoldable pub clear : List ℕ → ℕ → ℕ → Memory → ℕ → Change
-clear g at sr m op =
+unfoldable pub clr : List ℕ → ℕ → ℕ → Memory → ℕ → Change
+clr g at sr m op =
     let z : Size = sizeOf (op / 64) in
     putTo g (moveCodes z 0 sr) (destination g m (plus at 2) op z) z 0
 
-unfoldable pub test : List ℕ → ℕ → ℕ → Memory → ℕ → Change
-test g at sr m op =
+unfoldable pub tst : List ℕ → ℕ → ℕ → Memory → ℕ → Change
+tst g at sr m op =
     let z : Size = sizeOf (op / 64) in
     let from : Source = source g m (plus at 2) op z in
     reading (from .got) λ v.
     done (from .next) (moveCodes z v sr) (from .moved) noWrite
 
 -- TAS: a byte is tested, and its highest bit set
-unfoldable pub testAndSet : List ℕ → ℕ → ℕ → Memory → ℕ → Change
-testAndSet g at sr m op =
+unfoldable pub tas : List ℕ → ℕ → ℕ → Memory → ℕ → Change
+tas g at sr m op =
     let to : Destination = destination g m (plus at 2) op Byte in
     reading (fetch g m (to .place) Byte) λ v.
     putTo g (moveCodes Byte v sr) to Byte (withBit 7 true v)
 
 -- products and quotients of longs: goes on with the second word, the operand after it and the operand's value
-abbrev pub withWord : List ℕ → ℕ → Memory → ℕ → (ℕ → Source → ℕ → Change) → Change
-withWord g at m op f =
+abbrev pub withWordAndLong : List ℕ → ℕ → Memory → ℕ → (ℕ → Source → ℕ → Change) → Change
+withWordAndLong g at m op f =
     let pc : ℕ = plus at 2 in
     reading (load m pc Word) λ w.
     let from : Source = source g m (plus pc 2) op Long in
@@ -248,14 +248,14 @@ withWord g at m op f =
     f w from v
 
 -- MULU.L and MULS.L: bits 14 to 12 of the second word name the register, and bit 11 says signed
-abbrev pub multiplyBy : List ℕ → ℕ → ℕ → Source → ℕ → Change
-multiplyBy g sr w from v =
+abbrev pub mulLBy : List ℕ → ℕ → ℕ → Source → ℕ → Change
+mulLBy g sr w from v =
     let d : ℕ = dataOf g (w / 0x1000) in
     let r : ℕ = cond (eqb (w / 0x800 % 2) 1) (signedLongProduct d v) (longProduct d v) in
     done (from .next) (moveCodes Long r sr) (from .moved) (writeData (w / 0x1000) r)
 
-unfoldable pub multiply : List ℕ → ℕ → ℕ → Memory → ℕ → Change
-multiply g at sr m op = withWord g at m op (multiplyBy g sr)
+unfoldable pub mulL : List ℕ → ℕ → ℕ → Memory → ℕ → Change
+mulL g at sr m op = withWordAndLong g at m op (mulLBy g sr)
 
 -- DIVU.L and DIVS.L; bits 2 to 0 of the second word name another register for REMU.L and REMS.L, whose condition codes are the
 -- quotient's too
@@ -265,8 +265,8 @@ divided w d v = cond (eqb (w / 0x800 % 2) 1) (signedQuotient d v) (quotient d v)
 abbrev pub quotientTo : ℕ → Quotient → Write
 quotientTo w q = cond (eqb (w / 0x1000 % 8) (w % 8)) (writeData w (q .quotient)) (writeData w (q .remainder))
 
-abbrev pub divideBy : List ℕ → ℕ → ℕ → Source → ℕ → Change
-divideBy g sr w from v =
+abbrev pub divLBy : List ℕ → ℕ → ℕ → Source → ℕ → Change
+divLBy g sr w from v =
     let q : Quotient = divided w (dataOf g (w / 0x1000)) v in
     -- 1. a divide by zero has the next instruction's pc in its frame. The manual: the divide's
     cond (eqb v 0) (enterAfter (from .moved) sr 5 (from .next))
@@ -274,52 +274,52 @@ divideBy g sr w from v =
     (done (from .next) (moveCodes Long (q .quotient) sr) (from .moved) (quotientTo w q))
     (done (from .next) (overflowCodes sr) (from .moved) noWrite))
 
-unfoldable pub divide : List ℕ → ℕ → ℕ → Memory → ℕ → Change
-divide g at sr m op = withWord g at m op (divideBy g sr)
+unfoldable pub divL : List ℕ → ℕ → ℕ → Memory → ℕ → Change
+divL g at sr m op = withWordAndLong g at m op (divLBy g sr)
 
 -- ---- the rows of the line; every other word is illegal
 
 unfoldable pub line4 : ℕ → List ℕ → ℕ → ℕ → ℕ → Memory → ℕ → Change
 line4 row g at sr other m op =
     getD
-    (nothing at sr ∷
+    (nop at sr ∷
     stop at sr m ∷
     rte at sr ∷
     rts g sr m ∷
     notCarried ∷
     notCarried ∷
     halt at sr ∷
-    nothing at sr ∷
+    nop at sr ∷
     illegal at sr ∷
     stldsr at sr m ∷
-    extendByte g at sr op ∷
+    extb g at sr op ∷
     link g at sr m op ∷
     unlk g at sr m op ∷
-    toUsp g at sr op ∷
-    fromUsp at sr other op ∷
-    fromCcr g at sr op ∷
+    moveToUsp g at sr op ∷
+    moveFromUsp at sr other op ∷
+    moveFromCcr g at sr op ∷
     swap g at sr op ∷
-    extendToWord g at sr op ∷
-    extendToLong g at sr op ∷
-    saturate g at sr op ∷
-    negateExtended g at sr op ∷
-    negate g at op ∷
-    complement g at sr op ∷
+    extW g at sr op ∷
+    extL g at sr op ∷
+    sats g at sr op ∷
+    negx g at sr op ∷
+    neg g at op ∷
+    not g at sr op ∷
     trap at sr op ∷
     jsr g at sr m op ∷
     jmp g at sr m op ∷
-    fromSr g at sr op ∷
+    moveFromSr g at sr op ∷
     illegal at sr ∷
-    toCcr g at m op ∷
-    toSr g at sr m op ∷
+    moveToCcr g at m op ∷
+    moveToSr g at sr m op ∷
     pea g at sr m op ∷
-    moveMany true g at sr m op ∷
-    moveMany false g at sr m op ∷
-    multiply g at sr m op ∷
-    divide g at sr m op ∷
-    testAndSet g at sr m op ∷
-    clear g at sr m op ∷
-    test g at sr m op ∷
+    movem true g at sr m op ∷
+    movem false g at sr m op ∷
+    mulL g at sr m op ∷
+    divL g at sr m op ∷
+    tas g at sr m op ∷
+    clr g at sr m op ∷
+    tst g at sr m op ∷
     lea g at sr m op ∷
     [])
     (placeIn (firstRow 4) row) (illegal at sr)

@@ -20,7 +20,7 @@ use Rattle.manual.specs.Change.{done, jump, illegal}
 use Rattle.manual.specs.Differences.{anySize}
 use Rattle.manual.specs.Memory.{Memory}
 use Rattle.instructions.specs.Rows.{firstRow, placeIn}
-use Rattle.instructions.specs.Line9D.{toPlace, moreOrLess}
+use Rattle.instructions.specs.Line9D.{addToPlace, moreOrLess}
 
 -- the number of ADDQ and SUBQ, and of a shift: bits 11 to 9, with 8 for 0
 unfoldable pub quickNumber : ℕ → ℕ
@@ -31,43 +31,43 @@ abbrev pub quickAdds : ℕ → Bool
 quickAdds op = eqb (op / 256 % 2) 0
 
 -- to An: the whole register, and no condition codes
-unfoldable pub quickAddress : List ℕ → ℕ → ℕ → ℕ → Change
-quickAddress g at sr op =
+unfoldable pub addqAddress : List ℕ → ℕ → ℕ → ℕ → Change
+addqAddress g at sr op =
     done (plus at 2) (keptCodes sr) noWrite (writeAddress op (moreOrLess (quickAdds op) (addressOf g op) (quickNumber op)))
 
 -- to Dn
-unfoldable pub quickData : List ℕ → ℕ → ℕ → Change
-quickData g at op =
+unfoldable pub addqData : List ℕ → ℕ → ℕ → Change
+addqData g at op =
     let z : Size = anySize op in
     let old : ℕ = dataOf g op in
     let r : Sum = sumOrDifference (quickAdds op) z (quickNumber op) old false in
     done (plus at 2) (sumCodes r) noWrite (writeData op (merged z old (r .value)))
 
-unfoldable pub quick : List ℕ → ℕ → Memory → ℕ → Change
-quick g at m op =
-    cond (eqb (op / 8 % 8) 0) (quickData g at op) (toPlace (quickAdds op) (anySize op) g at m op (quickNumber op))
+unfoldable pub addq : List ℕ → ℕ → Memory → ℕ → Change
+addq g at m op =
+    cond (eqb (op / 8 % 8) 0) (addqData g at op) (addToPlace (quickAdds op) (anySize op) g at m op (quickNumber op))
 
 -- Scc: the low byte of Dn is all ones where the condition holds, and all zeros where not
-unfoldable pub setByCondition : List ℕ → ℕ → ℕ → ℕ → Change
-setByCondition g at sr op =
+unfoldable pub scc : List ℕ → ℕ → ℕ → ℕ → Change
+scc g at sr op =
     done (plus at 2) (keptCodes sr) noWrite (writeData op (merged Byte (dataOf g op) (cond (condition (op / 256) sr) 0xFF 0)))
 
 -- 30. TPF with every condition: the words that it skips are not fetched. The manual: TPF is 51FA, 51FB and 51FC alone
-unfoldable pub skip : ℕ → ℕ → ℕ → Change
-skip n at sr = jump sr (plus at (2 + n))
+unfoldable pub tpf : ℕ → ℕ → ℕ → Change
+tpf n at sr = jump sr (plus at (2 + n))
 
 -- ---- the rows of the line
 
 unfoldable pub line5 : ℕ → List ℕ → ℕ → ℕ → Memory → ℕ → Change
 line5 row g at sr m op =
     getD
-    (skip 2 at sr ∷
-    skip 4 at sr ∷
-    skip 0 at sr ∷
-    quickAddress g at sr op ∷
-    quickAddress g at sr op ∷
-    quickAddress g at sr op ∷
-    setByCondition g at sr op ∷
+    (tpf 2 at sr ∷
+    tpf 4 at sr ∷
+    tpf 0 at sr ∷
+    addqAddress g at sr op ∷
+    addqAddress g at sr op ∷
+    addqAddress g at sr op ∷
+    scc g at sr op ∷
     illegal at sr ∷
     [])
-    (placeIn (firstRow 5) row) (quick g at m op)
+    (placeIn (firstRow 5) row) (addq g at m op)

@@ -21,21 +21,21 @@ use Rattle.manual.specs.Memory.{Memory}
 use Rattle.instructions.specs.Rows.{firstRow, placeIn}
 
 -- MOVEQ: the low byte, sign-extended
-unfoldable pub moveQuick : ℕ → ℕ → ℕ → Change
-moveQuick at sr op =
+unfoldable pub moveq : ℕ → ℕ → ℕ → Change
+moveq at sr op =
     let v : ℕ = signExtended Byte op in
     done (plus at 2) (moveCodes Long v sr) noWrite (writeData (op / 512) v)
 
 -- MVS and MVZ: a byte or, by bit 6, a word, sign-extended or not
-unfoldable pub moveSigned : List ℕ → ℕ → ℕ → Memory → ℕ → Change
-moveSigned g at sr m op =
+unfoldable pub mvs : List ℕ → ℕ → ℕ → Memory → ℕ → Change
+mvs g at sr m op =
     let z : Size = sizeOf (op / 64 % 2) in
     let from : Source = source g m (plus at 2) op z in
     reading (from .got) λ v.
     done (from .next) (moveCodes Long (signExtended z v) sr) (from .moved) (writeData (op / 512) (signExtended z v))
 
-unfoldable pub moveZero : List ℕ → ℕ → ℕ → Memory → ℕ → Change
-moveZero g at sr m op =
+unfoldable pub mvz : List ℕ → ℕ → ℕ → Memory → ℕ → Change
+mvz g at sr m op =
     let from : Source = source g m (plus at 2) op (sizeOf (op / 64 % 2)) in
     reading (from .got) λ v.
     done (from .next) (moveCodes Long v sr) (from .moved) (writeData (op / 512) v)
@@ -43,4 +43,4 @@ moveZero g at sr m op =
 -- ---- the rows of the line
 
 unfoldable pub line7 : ℕ → List ℕ → ℕ → ℕ → Memory → ℕ → Change
-line7 row g at sr m op = getD (moveSigned g at sr m op ∷ moveZero g at sr m op ∷ []) (placeIn (firstRow 7) row) (moveQuick at sr op)
+line7 row g at sr m op = getD (mvs g at sr m op ∷ mvz g at sr m op ∷ []) (placeIn (firstRow 7) row) (moveq at sr op)

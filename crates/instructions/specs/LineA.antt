@@ -26,40 +26,40 @@ use Rattle.manual.specs.Emac.{has, modeOf, accOf, readAcc, readExt}
 use Rattle.instructions.specs.Rows.{firstRow, placeIn}
 
 -- MOVE MACSR,CCR: N, Z and V; X and C are cleared
-unfoldable pub macsrToCcr : ℕ → ℕ → Change
-macsrToCcr at macsr = done (plus at 2) (codes false (has macsr 3) (has macsr 2) (has macsr 1) false) noWrite noWrite
+unfoldable pub moveMacsrToCcr : ℕ → ℕ → Change
+moveMacsrToCcr at macsr = done (plus at 2) (codes false (has macsr 3) (has macsr 2) (has macsr 1) false) noWrite noWrite
 
 -- MOVE from MACSR, MASK or an accumulator's extension to Rx
-unfoldable pub toGeneral : ℕ → ℕ → ℕ → ℕ → Change
-toGeneral at sr op v = done (plus at 2) (keptCodes sr) noWrite (writeGeneral op v)
+unfoldable pub moveToGeneral : ℕ → ℕ → ℕ → ℕ → Change
+moveToGeneral at sr op v = done (plus at 2) (keptCodes sr) noWrite (writeGeneral op v)
 
 -- the even accumulator of ACCext01 and ACCext23
-abbrev pub pair : ℕ → ℕ
-pair op = op / 0x400 % 2 * 2
+abbrev pub extPair : ℕ → ℕ
+extPair op = op / 0x400 % 2 * 2
 
-abbrev pub numbered : ℕ → ℕ
-numbered op = op / 512 % 4
+abbrev pub accNumber : ℕ → ℕ
+accNumber op = op / 512 % 4
 
 -- MOVE ACCy,Rx; MOVCLR, by bit 6, clears the accumulator after it
-unfoldable pub fromAcc : ℕ → ℕ → Emac → ℕ → Change
-fromAcc at sr e op =
-    let v : ℕ = readAcc (modeOf (e .macsr)) (accOf e (numbered op)) in
-    acting sr (plus at 2) (writeGeneral op v) (cond (eqb (op / 64 % 2) 1) (ClearAcc (numbered op)) Nothing)
+unfoldable pub moveFromAcc : ℕ → ℕ → Emac → ℕ → Change
+moveFromAcc at sr e op =
+    let v : ℕ = readAcc (modeOf (e .macsr)) (accOf e (accNumber op)) in
+    acting sr (plus at 2) (writeGeneral op v) (cond (eqb (op / 64 % 2) 1) (ClearAcc (accNumber op)) Nothing)
 
 -- MOVE ACCy,ACCx
-unfoldable pub copy : ℕ → ℕ → ℕ → Change
-copy at sr op = acting sr (plus at 2) noWrite (CopyAcc (op % 4) (numbered op))
+unfoldable pub moveAccToAcc : ℕ → ℕ → ℕ → Change
+moveAccToAcc at sr op = acting sr (plus at 2) noWrite (CopyAcc (op % 4) (accNumber op))
 
 -- MOVE to ACCx, ACCext, MACSR and MASK
 unfoldable pub setting : EmacPart → ℕ → ℕ → Action
-setting Acc op v = SetAcc (numbered op) v
-setting Ext op v = SetExt (pair op) v
+setting Acc op v = SetAcc (accNumber op) v
+setting Ext op v = SetExt (extPair op) v
 setting Macsr op v = SetMacsr v
 setting Mask op v = SetMask v
 
 -- 40. From every mode. The manual: from a register or an immediate
-unfoldable pub toEmac : EmacPart → List ℕ → ℕ → ℕ → Memory → ℕ → Change
-toEmac part g at sr m op =
+unfoldable pub moveToEmac : EmacPart → List ℕ → ℕ → ℕ → Memory → ℕ → Change
+moveToEmac part g at sr m op =
     let from : Source = source g m (plus at 2) op Long in
     reading (from .got) λ v.
     acting sr (from .next) (from .moved) (setting part op v)
@@ -68,8 +68,8 @@ toEmac part g at sr m op =
 unfoldable pub threeBits : ℕ → ℕ
 threeBits op = cond (eqb (op / 512 % 8) 0) 0xFFFF_FFFF (op / 512 % 8)
 
-unfoldable pub moveThree : List ℕ → ℕ → ℕ → Memory → ℕ → Change
-moveThree g at sr m op =
+unfoldable pub mov3q : List ℕ → ℕ → ℕ → Memory → ℕ → Change
+mov3q g at sr m op =
     let v : ℕ = threeBits op in
     putTo g (moveCodes Long v sr) (destination g m (plus at 2) op Long) Long v
 
@@ -142,17 +142,17 @@ mac g at sr mask m op =
 unfoldable pub lineA : ℕ → List ℕ → ℕ → ℕ → Emac → Memory → ℕ → Change
 lineA row g at sr e m op =
     getD
-    (macsrToCcr at (e .macsr) ∷
-    copy at sr op ∷
-    toGeneral at sr op (e .macsr) ∷
-    toGeneral at sr op (e .mask) ∷
-    toGeneral at sr op (readExt (has (e .macsr) 5) e (pair op)) ∷
-    toEmac Macsr g at sr m op ∷
-    toEmac Mask g at sr m op ∷
-    fromAcc at sr e op ∷
-    toEmac Ext g at sr m op ∷
-    toEmac Acc g at sr m op ∷
-    moveThree g at sr m op ∷
+    (moveMacsrToCcr at (e .macsr) ∷
+    moveAccToAcc at sr op ∷
+    moveToGeneral at sr op (e .macsr) ∷
+    moveToGeneral at sr op (e .mask) ∷
+    moveToGeneral at sr op (readExt (has (e .macsr) 5) e (extPair op)) ∷
+    moveToEmac Macsr g at sr m op ∷
+    moveToEmac Mask g at sr m op ∷
+    moveFromAcc at sr e op ∷
+    moveToEmac Ext g at sr m op ∷
+    moveToEmac Acc g at sr m op ∷
+    mov3q g at sr m op ∷
     mac g at sr (e .mask) m op ∷
     [])
     (placeIn (firstRow 0xA) row) (unassigned g at sr m op)

@@ -24,16 +24,16 @@ use Rattle.manual.specs.Memory.{Memory}
 use Rattle.instructions.specs.Rows.{firstRow, placeIn}
 
 -- CMP <ea>,Dn
-unfoldable pub compareData : List ℕ → ℕ → ℕ → Memory → ℕ → Change
-compareData g at sr m op =
+unfoldable pub cmp : List ℕ → ℕ → ℕ → Memory → ℕ → Change
+cmp g at sr m op =
     let z : Size = sizeOf (op / 64) in
     let from : Source = source g m (plus at 2) op z in
     reading (from .got) λ v.
     done (from .next) (compareCodes sr (subtracted z v (dataOf g (op / 512)) false)) (from .moved) noWrite
 
 -- CMPA <ea>,An: the source sign-extended, all 32 bits of An as the source's move left it
-unfoldable pub compareAddress : Size → List ℕ → ℕ → ℕ → Memory → ℕ → Change
-compareAddress z g at sr m op =
+unfoldable pub cmpa : Size → List ℕ → ℕ → ℕ → Memory → ℕ → Change
+cmpa z g at sr m op =
     let from : Source = source g m (plus at 2) op z in
     reading (from .got) λ v.
     let r : Sum = subtracted Long (signExtended z v) (addressOf (written (from .moved) g) (op / 512)) false in
@@ -54,5 +54,5 @@ logicToPlace l g at sr m op =
 unfoldable pub lineB : ℕ → List ℕ → ℕ → ℕ → Memory → ℕ → Change
 lineB row g at sr m op =
     getD
-    (compareAddress Word g at sr m op ∷ compareAddress Long g at sr m op ∷ compareData g at sr m op ∷ [])
+    (cmpa Word g at sr m op ∷ cmpa Long g at sr m op ∷ cmp g at sr m op ∷ [])
     (placeIn (firstRow 0xB) row) (logicToPlace Eor g at sr m op)

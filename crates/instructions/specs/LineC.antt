@@ -40,8 +40,8 @@ logicToData l g at sr m op =
 unfoldable pub product : Bool → ℕ → ℕ → ℕ
 product signs x y = cond signs (signedWordProduct x y) (wordProduct x y)
 
-unfoldable pub multiplyWords : Bool → List ℕ → ℕ → ℕ → Memory → ℕ → Change
-multiplyWords signs g at sr m op =
+unfoldable pub mulW : Bool → List ℕ → ℕ → ℕ → Memory → ℕ → Change
+mulW signs g at sr m op =
     let from : Source = source g m (plus at 2) op Word in
     reading (from .got) λ v.
     let r : ℕ = product signs (dataOf g (op / 512)) v in
@@ -52,5 +52,5 @@ multiplyWords signs g at sr m op =
 unfoldable pub lineC : ℕ → List ℕ → ℕ → ℕ → Memory → ℕ → Change
 lineC row g at sr m op =
     getD
-    (multiplyWords false g at sr m op ∷ multiplyWords true g at sr m op ∷ logicToData And g at sr m op ∷ [])
+    (mulW false g at sr m op ∷ mulW true g at sr m op ∷ logicToData And g at sr m op ∷ [])
     (placeIn (firstRow 0xC) row) (logicToPlace And g at sr m op)

@@ -31,8 +31,8 @@ debugEnds sr pc (At (Value a)) words skipped = jump sr (plus (plus pc words) ski
 debugEnds sr pc (At (NoValue x)) words skipped = refused x
 debugEnds sr pc NoAddress words skipped = jump sr (plus pc skipped)
 
-unfoldable pub writeDebug : List ℕ → ℕ → ℕ → Memory → ℕ → Change
-writeDebug g at sr m op =
+unfoldable pub wdebug : List ℕ → ℕ → ℕ → Memory → ℕ → Change
+wdebug g at sr m op =
     let target : Operand = operand (op / 8 % 8) (op % 8) in
     let pc : ℕ = plus at 2 in
     debugEnds sr pc (control g m pc target) (extension target Long) 2
@@ -42,8 +42,8 @@ unfoldable pub cacheLine : ℕ → ℕ → Change
 cacheLine at sr = cond (supervisor sr) (jump sr (plus at 2)) (privilege at sr)
 
 -- 31. WDDATA does not read its operand; its register moves. The manual: the operand is read
-unfoldable pub writeDebugData : List ℕ → ℕ → ℕ → Memory → ℕ → Change
-writeDebugData g at sr m op =
+unfoldable pub wddata : List ℕ → ℕ → ℕ → Memory → ℕ → Change
+wddata g at sr m op =
     let to : Destination = destination g m (plus at 2) op (sizeOf (op / 64)) in
     locating (to .place) (done (to .next) (keptCodes sr) (to .moved) noWrite)
 
@@ -52,5 +52,5 @@ writeDebugData g at sr m op =
 unfoldable pub lineF : ℕ → List ℕ → ℕ → ℕ → Memory → ℕ → Change
 lineF row g at sr m op =
     getD
-    (writeDebug g at sr m op ∷ cacheLine at sr ∷ writeDebugData g at sr m op ∷ [])
+    (wdebug g at sr m op ∷ cacheLine at sr ∷ wddata g at sr m op ∷ [])
     (placeIn (firstRow 0xF) row) (enter sr 11 at)

@@ -36,8 +36,8 @@ move z g at sr m op =
     (moveTo z (written (from .moved) g) sr m (from .next) (from .moved) (operand mode (op / 512 % 8)) v)
 
 -- MOVEA: the whole register, sign-extended, and no condition codes
-unfoldable pub moveAddress : Size → List ℕ → ℕ → ℕ → Memory → ℕ → Change
-moveAddress z g at sr m op =
+unfoldable pub movea : Size → List ℕ → ℕ → ℕ → Memory → ℕ → Change
+movea z g at sr m op =
     let from : Source = source g m (plus at 2) op z in
     reading (from .got) λ v.
     done (from .next) (keptCodes sr) (from .moved) (writeAddress (op / 512) (signExtended z v))
@@ -45,10 +45,10 @@ moveAddress z g at sr m op =
 -- ---- the rows of the lines
 
 unfoldable pub line1 : ℕ → List ℕ → ℕ → ℕ → Memory → ℕ → Change
-line1 row g at sr m op = getD (moveAddress Byte g at sr m op ∷ []) (placeIn (firstRow 1) row) (move Byte g at sr m op)
+line1 row g at sr m op = getD (movea Byte g at sr m op ∷ []) (placeIn (firstRow 1) row) (move Byte g at sr m op)
 
 unfoldable pub line2 : ℕ → List ℕ → ℕ → ℕ → Memory → ℕ → Change
-line2 row g at sr m op = getD (moveAddress Long g at sr m op ∷ []) (placeIn (firstRow 2) row) (move Long g at sr m op)
+line2 row g at sr m op = getD (movea Long g at sr m op ∷ []) (placeIn (firstRow 2) row) (move Long g at sr m op)
 
 unfoldable pub line3 : ℕ → List ℕ → ℕ → ℕ → Memory → ℕ → Change
-line3 row g at sr m op = getD (moveAddress Word g at sr m op ∷ []) (placeIn (firstRow 3) row) (move Word g at sr m op)
+line3 row g at sr m op = getD (movea Word g at sr m op ∷ []) (placeIn (firstRow 3) row) (move Word g at sr m op)

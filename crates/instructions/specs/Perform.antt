@@ -5,13 +5,13 @@ use Rattle.manual.specs.declared.Cpu.{Cpu}
 use Rattle.manual.specs.declared.Size.the-variants.{Long}
 use Rattle.manual.specs.declared.Level.the-variants.{Kept}
 use Rattle.manual.specs.declared.Action.{Action}
-use Rattle.manual.specs.declared.Action.the-variants.{Nothing, Store, StoreMany, LoadMany, Enter, Return, Status, Stop, PushStatus, Halt, Other, Accumulate, SetAcc, SetExt, SetMacsr, SetMask, CopyAcc, ClearAcc, Refuse}
+use Rattle.manual.specs.declared.Action.the-variants.{Nothing, Store, StoreMany, LoadMany, Enter, Return, Status, Stop, PushStatus, Halt, SetOther, Accumulate, SetAcc, SetExt, SetMacsr, SetMask, CopyAcc, ClearAcc, Refuse}
 use Rattle.manual.specs.declared.Change.{Change}
 use Rattle.manual.specs.Word.{minus}
 use Rattle.manual.specs.Registers.{addressOf, withAddress, withRegisters, withOther, withEmac, withStopped, applied}
 use Rattle.manual.specs.Memory.{Memory, storageOf, storing, stored, accessMany, storedMany, loadedMany}
 use Rattle.manual.specs.Reply.{Outcome, completed, unchanged, taking}
-use Rattle.manual.specs.Exceptions.{setSr, entered, left}
+use Rattle.manual.specs.Exceptions.{setSr, entered, returned}
 use Rattle.manual.specs.Emac.{accumulate, moveTo, setExt, setMacsr, setMask, copyAcc, clearAcc}
 
 -- STRLDSR: the status register is pushed as a long, and then replaced
@@ -27,12 +27,12 @@ act given s (Store a z v) m = taking given m (storing m a z) (completed s 0 (sto
 act given s (StoreMany mask a) m = taking given m (accessMany 16 m mask a) (completed s 0 (storedMany 16 (s .r) 0 mask a m))
 act given s (LoadMany mask a) m = taking given m (accessMany 16 m mask a) (completed (withRegisters (loadedMany 16 m 0 mask a (s .r)) s) 0 (storageOf m))
 act given s (Enter vector pc) m = entered given s Kept vector pc m
-act given s Return m = left given s m
+act given s Return m = returned given s m
 act given s (Status v) m = completed (setSr v s) 0 (storageOf m)
 act given s (Stop v) m = completed (withStopped true (setSr v s)) 0 (storageOf m)
 act given s (PushStatus v) m = statusPushed given s v m
 act given s Halt m = completed (withStopped true s) 0 (storageOf m)
-act given s (Other v) m = completed (withOther v s) 0 (storageOf m)
+act given s (SetOther v) m = completed (withOther v s) 0 (storageOf m)
 act given s (Accumulate i scale sub x y) m = completed (withEmac (accumulate (s .emac) i scale sub x y) s) 0 (storageOf m)
 act given s (SetAcc i v) m = completed (withEmac (moveTo (s .emac) i v) s) 0 (storageOf m)
 act given s (SetExt i v) m = completed (withEmac (setExt (s .emac) i v) s) 0 (storageOf m)

@@ -12,7 +12,7 @@ use Rattle.manual.specs.Word.{plus}
 use Rattle.manual.specs.Memory.{Memory, load}
 use Rattle.manual.specs.Address.{source}
 use Rattle.manual.specs.Change.{refused, reading}
-use Rattle.instructions.specs.Line4.{withWord, multiplyBy, multiply, divideBy, divide}
+use Rattle.instructions.specs.Line4.{withWordAndLong, mulLBy, mulL, divLBy, divL}
 use Rattle.line4.specs.declared.single.WordAndLong.{WordAndLong}
 use Rattle.line4.specs.declared.single.WordAndLong.the-variants.{Read, Fault}
 
@@ -45,14 +45,14 @@ by-word (NoValue x) from f = refl
 
 module _ (g : List ℕ) (at sr : ℕ) (m : Memory) (op : ℕ) where
   -- what goes on with the word and the operand does so after they are read
-  goes : (f : ℕ → Source → ℕ → Change) → withWord g at m op f ≡ after (wordAndLong g at m op) f
+  goes : (f : ℕ → Source → ℕ → Change) → withWordAndLong g at m op f ≡ after (wordAndLong g at m op) f
   unfolding wordAndLong
   goes f = by-word (load m (plus at 2) Word) (source g m (plus (plus at 2) 2) op Long) f
 
-  pub multiply-goes : multiply g at sr m op ≡ after (wordAndLong g at m op) (multiplyBy g sr)
-  unfolding multiply
-  multiply-goes = goes (multiplyBy g sr)
+  pub multiply-goes : mulL g at sr m op ≡ after (wordAndLong g at m op) (mulLBy g sr)
+  unfolding mulL
+  multiply-goes = goes (mulLBy g sr)
 
-  pub divide-goes : divide g at sr m op ≡ after (wordAndLong g at m op) (divideBy g sr)
-  unfolding divide
-  divide-goes = goes (divideBy g sr)
+  pub divide-goes : divL g at sr m op ≡ after (wordAndLong g at m op) (divLBy g sr)
+  unfolding divL
+  divide-goes = goes (divLBy g sr)

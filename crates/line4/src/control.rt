@@ -30,11 +30,11 @@ ghost use Rattle.manual.specs.Memory.{mapped};
 ghost use Rattle.manual.specs.Registers.{noWrite};
 ghost use Rattle.manual.specs.Change.{acting as actingOf};
 ghost use Rattle.line4.specs.ControlAddress.{controlAddress as controlAddressOf};
-ghost use Rattle.instructions.specs.Line4.{nothing, lea as leaOf, pea as peaOf, jsr as jsrOf, jmp as jmpOf, rts as rtsOf, trap as trapOf, link as linkOf, unlk as unlkOf, many as manyOf, moveMany};
+ghost use Rattle.instructions.specs.Line4.{nop as nopOf, lea as leaOf, pea as peaOf, jsr as jsrOf, jmp as jmpOf, rts as rtsOf, trap as trapOf, link as linkOf, unlk as unlkOf, many as manyOf, movem as movemOf};
 
 // NOP and PULSE: nothing but the PC.
 pub fn nop(at: u32, sr: u16) -> Change
-    ensures { λ e. ⌜ e ≡ nothing at sr ⌝ }
+    ensures { λ e. ⌜ e ≡ nopOf at sr ⌝ }
 {
     jump(sr, plus(at, 2))
 }
@@ -168,7 +168,7 @@ fn many(storing: bool, sr: u16, next: u32, mask: u32, a: u32) -> Change
 
 // MOVEM to memory where `storing`, else from it.
 pub fn movem(storing: bool, g: &[u32; 16], at: u32, sr: u16, mem: &[u8], op: u32) -> Change
-    ensures { λ e. ⌜ e ≡ moveMany storing (now (g .entry)) at sr (mapped (now (mem .entry))) op ⌝ }
+    ensures { λ e. ⌜ e ≡ movemOf storing (now (g .entry)) at sr (mapped (now (mem .entry))) op ⌝ }
 {
     let pc = plus(at, 2);
     let a = address(g, op);

@@ -22,16 +22,16 @@ use super::single::sats;
 use super::single::swap;
 use super::single::tas;
 use super::single::tst;
-use super::status::from_ccr;
-use super::status::from_sr;
-use super::status::from_usp;
 use super::status::halt;
+use super::status::move_from_ccr;
+use super::status::move_from_sr;
+use super::status::move_from_usp;
+use super::status::move_to_ccr;
+use super::status::move_to_sr;
+use super::status::move_to_usp;
 use super::status::rte;
 use super::status::stldsr;
 use super::status::stop;
-use super::status::to_ccr;
-use super::status::to_sr;
-use super::status::to_usp;
 use address::changes::illegal;
 use address::changes::not_carried;
 use manual::Change;
@@ -66,9 +66,9 @@ pub fn instruction(
         rows::EXTB => extb(g, at, sr, op),
         rows::LINK => link(g, at, sr, mem, op),
         rows::UNLK => unlk(g, at, sr, mem, op),
-        rows::TO_USP => to_usp(g, at, sr, op),
-        rows::FROM_USP => from_usp(at, sr, other, op),
-        rows::FROM_CCR => from_ccr(g, at, sr, op),
+        rows::TO_USP => move_to_usp(g, at, sr, op),
+        rows::FROM_USP => move_from_usp(at, sr, other, op),
+        rows::FROM_CCR => move_from_ccr(g, at, sr, op),
         rows::SWAP => swap(g, at, sr, op),
         rows::EXT_W => ext_w(g, at, sr, op),
         rows::EXT_L => ext_l(g, at, sr, op),
@@ -79,10 +79,10 @@ pub fn instruction(
         rows::TRAP => trap(at, sr, op),
         rows::JSR => jsr(g, at, sr, mem, op),
         rows::JMP => jmp(g, at, sr, mem, op),
-        rows::FROM_SR => from_sr(g, at, sr, op),
+        rows::FROM_SR => move_from_sr(g, at, sr, op),
         rows::ILL_42C0 => illegal(at, sr),
-        rows::TO_CCR => to_ccr(g, at, mem, op),
-        rows::TO_SR => to_sr(g, at, sr, mem, op),
+        rows::TO_CCR => move_to_ccr(g, at, mem, op),
+        rows::TO_SR => move_to_sr(g, at, sr, mem, op),
         rows::PEA => pea(g, at, sr, mem, op),
         rows::MOVEM_STORE => movem(true, g, at, sr, mem, op),
         rows::MOVEM_LOAD => movem(false, g, at, sr, mem, op),

@@ -44,7 +44,7 @@ ghost use Rattle.manual.specs.Multiply.{longProduct, signedLongProduct};
 ghost use Rattle.manual.specs.Divide.{overflowCodes};
 ghost use Rattle.manual.specs.Change.{done as doneOf};
 ghost use Rattle.line4.specs.Words.{wordAndLong};
-ghost use Rattle.instructions.specs.Line4.{extendByte, extendToWord, extendToLong, swap as swapOf, saturated as saturatedOf, saturate, negate, negateExtended, complement, clear, test, testAndSet, multiply, divided as dividedOf, quotientTo, divide};
+ghost use Rattle.instructions.specs.Line4.{extb as extbOf, extW, extL, swap as swapOf, saturated as saturatedOf, sats as satsOf, neg as negOf, negx as negxOf, not as notOf, clr as clrOf, tst as tstOf, tas as tasOf, mulL, divided as dividedOf, quotientTo, divL};
 
 // A long into Dn, with the condition codes of a move.
 fn replaced(at: u32, sr: u16, op: u32, v: u32) -> Change
@@ -57,14 +57,14 @@ fn replaced(at: u32, sr: u16, op: u32, v: u32) -> Change
 
 // EXTB: a byte to a long.
 pub fn extb(g: &[u32; 16], at: u32, sr: u16, op: u32) -> Change
-    ensures { λ e. ⌜ e ≡ extendByte (now (g .entry)) at sr op ⌝ }
+    ensures { λ e. ⌜ e ≡ extbOf (now (g .entry)) at sr op ⌝ }
 {
     replaced(at, sr, op, sign_extended(Size::Byte, data(g, op)))
 }
 
 // EXT.W: a byte to a word.
 pub fn ext_w(g: &[u32; 16], at: u32, sr: u16, op: u32) -> Change
-    ensures { λ e. ⌜ e ≡ extendToWord (now (g .entry)) at sr op ⌝ }
+    ensures { λ e. ⌜ e ≡ extW (now (g .entry)) at sr op ⌝ }
 {
     let old = data(g, op);
     let v = cut(Size::Word, sign_extended(Size::Byte, old));
@@ -81,7 +81,7 @@ pub fn ext_w(g: &[u32; 16], at: u32, sr: u16, op: u32) -> Change
 
 // EXT.L: a word to a long.
 pub fn ext_l(g: &[u32; 16], at: u32, sr: u16, op: u32) -> Change
-    ensures { λ e. ⌜ e ≡ extendToLong (now (g .entry)) at sr op ⌝ }
+    ensures { λ e. ⌜ e ≡ extL (now (g .entry)) at sr op ⌝ }
 {
     replaced(at, sr, op, sign_extended(Size::Word, data(g, op)))
 }
@@ -110,14 +110,14 @@ fn saturated(sr: u16, v: u32) -> u32
 
 // SATS: after an overflow, the largest number of the sign that the value should have had.
 pub fn sats(g: &[u32; 16], at: u32, sr: u16, op: u32) -> Change
-    ensures { λ e. ⌜ e ≡ saturate (now (g .entry)) at sr op ⌝ }
+    ensures { λ e. ⌜ e ≡ satsOf (now (g .entry)) at sr op ⌝ }
 {
     replaced(at, sr, op, saturated(sr, data(g, op)))
 }
 
 // NEG: 0 less Dn.
 pub fn neg(g: &[u32; 16], at: u32, op: u32) -> Change
-    ensures { λ e. ⌜ e ≡ negate (now (g .entry)) at op ⌝ }
+    ensures { λ e. ⌜ e ≡ negOf (now (g .entry)) at op ⌝ }
 {
     let r = subtracted(Size::Long, data(g, op), 0, false);
     let next = plus(at, 2);
@@ -128,7 +128,7 @@ pub fn neg(g: &[u32; 16], at: u32, op: u32) -> Change
 
 // NEGX: 0 less Dn and X.
 pub fn negx(g: &[u32; 16], at: u32, sr: u16, op: u32) -> Change
-    ensures { λ e. ⌜ e ≡ negateExtended (now (g .entry)) at sr op ⌝ }
+    ensures { λ e. ⌜ e ≡ negxOf (now (g .entry)) at sr op ⌝ }
 {
     let r = subtracted(Size::Long, data(g, op), 0, sr / 16 % 2 == 1);
     let next = plus(at, 2);
@@ -139,14 +139,14 @@ pub fn negx(g: &[u32; 16], at: u32, sr: u16, op: u32) -> Change
 
 // NOT: every bit of Dn inverted.
 pub fn not(g: &[u32; 16], at: u32, sr: u16, op: u32) -> Change
-    ensures { λ e. ⌜ e ≡ complement (now (g .entry)) at sr op ⌝ }
+    ensures { λ e. ⌜ e ≡ notOf (now (g .entry)) at sr op ⌝ }
 {
     replaced(at, sr, op, 0xFFFF_FFFF - data(g, op))
 }
 
 // CLR: 0 to the operand's place.
 pub fn clr(g: &[u32; 16], at: u32, sr: u16, mem: &[u8], op: u32) -> Change
-    ensures { λ e. ⌜ e ≡ clear (now (g .entry)) at sr (mapped (now (mem .entry))) op ⌝ }
+    ensures { λ e. ⌜ e ≡ clrOf (now (g .entry)) at sr (mapped (now (mem .entry))) op ⌝ }
 {
     let z = size_of(op / 64);
     let to = destination(g, mem, plus(at, 2), op, z);
@@ -155,7 +155,7 @@ pub fn clr(g: &[u32; 16], at: u32, sr: u16, mem: &[u8], op: u32) -> Change
 
 // TST: the operand's flags.
 pub fn tst(g: &[u32; 16], at: u32, sr: u16, mem: &[u8], op: u32) -> Change
-    ensures { λ e. ⌜ e ≡ test (now (g .entry)) at sr (mapped (now (mem .entry))) op ⌝ }
+    ensures { λ e. ⌜ e ≡ tstOf (now (g .entry)) at sr (mapped (now (mem .entry))) op ⌝ }
 {
     let z = size_of(op / 64);
     let from = source(g, mem, plus(at, 2), op, z);
@@ -172,7 +172,7 @@ pub fn tst(g: &[u32; 16], at: u32, sr: u16, mem: &[u8], op: u32) -> Change
 
 // TAS: the flags of a byte, whose highest bit is then set.
 pub fn tas(g: &[u32; 16], at: u32, sr: u16, mem: &[u8], op: u32) -> Change
-    ensures { λ e. ⌜ e ≡ testAndSet (now (g .entry)) at sr (mapped (now (mem .entry))) op ⌝ }
+    ensures { λ e. ⌜ e ≡ tasOf (now (g .entry)) at sr (mapped (now (mem .entry))) op ⌝ }
 {
     let to = destination(g, mem, plus(at, 2), op, Size::Byte);
     let place = to.place;
@@ -220,7 +220,7 @@ fn word_and_long(g: &[u32; 16], at: u32, mem: &[u8], op: u32) -> WordAndLong
 
 // MULS.L and MULU.L.
 pub fn mul_l(g: &[u32; 16], at: u32, sr: u16, mem: &[u8], op: u32) -> Change
-    ensures { λ e. ⌜ e ≡ multiply (now (g .entry)) at sr (mapped (now (mem .entry))) op ⌝ }
+    ensures { λ e. ⌜ e ≡ mulL (now (g .entry)) at sr (mapped (now (mem .entry))) op ⌝ }
 {
     match word_and_long(g, at, mem, op) {
         WordAndLong::Read(w, v, next, first) => {
@@ -267,7 +267,7 @@ fn quotient_done(next: u32, sr: u16, first: Write, w: u32, q: Quotient) -> Chang
 
 // DIVS.L, DIVU.L, REMS.L and REMU.L; vector 5 for a divisor of 0.
 pub fn div_l(g: &[u32; 16], at: u32, sr: u16, mem: &[u8], op: u32) -> Change
-    ensures { λ e. ⌜ e ≡ divide (now (g .entry)) at sr (mapped (now (mem .entry))) op ⌝ }
+    ensures { λ e. ⌜ e ≡ divL (now (g .entry)) at sr (mapped (now (mem .entry))) op ⌝ }
 {
     match word_and_long(g, at, mem, op) {
         WordAndLong::Read(w, v, next, first) => {

@@ -26,7 +26,7 @@ ghost use Prim.Native.Nat.{_+_, _*_, _/_, _%_, _<_};
 ghost use Rattle.manual.specs.Memory.{mapped};
 ghost use Rattle.manual.specs.Exceptions.{supervisor};
 ghost use Rattle.manual.specs.Change.{privilege as privilegeOf};
-ghost use Rattle.instructions.specs.Line4.{rte as rteOf, stop as stopOf, stldsr as stldsrOf, halt as haltOf, toUsp, fromUsp, fromSr, toSr, fromCcr, toCcr};
+ghost use Rattle.instructions.specs.Line4.{rte as rteOf, stop as stopOf, stldsr as stldsrOf, halt as haltOf, moveToUsp, moveFromUsp, moveFromSr, moveToSr, moveFromCcr, moveToCcr};
 
 // What the supervisor alone may do. For anyone else it is a privilege violation.
 fn privileged(at: u32, sr: u16, does: Change) -> Change
@@ -88,17 +88,17 @@ pub fn halt(at: u32, sr: u16) -> Change
 }
 
 // MOVE to USP, or vector 8 for a user.
-pub fn to_usp(g: &[u32; 16], at: u32, sr: u16, op: u32) -> Change
-    ensures { λ e. ⌜ e ≡ toUsp (now (g .entry)) at sr op ⌝ }
+pub fn move_to_usp(g: &[u32; 16], at: u32, sr: u16, op: u32) -> Change
+    ensures { λ e. ⌜ e ≡ moveToUsp (now (g .entry)) at sr op ⌝ }
 {
     let next = plus(at, 2);
     let a = address(g, op);
-    privileged(at, sr, acting(sr, next, no_write(), Action::Other(a)))
+    privileged(at, sr, acting(sr, next, no_write(), Action::SetOther(a)))
 }
 
 // MOVE from USP, or vector 8 for a user.
-pub fn from_usp(at: u32, sr: u16, other: u32, op: u32) -> Change
-    ensures { λ e. ⌜ e ≡ fromUsp at sr other op ⌝ }
+pub fn move_from_usp(at: u32, sr: u16, other: u32, op: u32) -> Change
+    ensures { λ e. ⌜ e ≡ moveFromUsp at sr other op ⌝ }
 {
     let next = plus(at, 2);
     let codes = kept_codes(sr);
@@ -107,8 +107,8 @@ pub fn from_usp(at: u32, sr: u16, other: u32, op: u32) -> Change
 }
 
 // MOVE from SR to Dn, or vector 8 for a user.
-pub fn from_sr(g: &[u32; 16], at: u32, sr: u16, op: u32) -> Change
-    ensures { λ e. ⌜ e ≡ fromSr (now (g .entry)) at sr op ⌝ }
+pub fn move_from_sr(g: &[u32; 16], at: u32, sr: u16, op: u32) -> Change
+    ensures { λ e. ⌜ e ≡ moveFromSr (now (g .entry)) at sr op ⌝ }
 {
     if op / 8 % 8 == 0 {
         let next = plus(at, 2);
@@ -122,8 +122,8 @@ pub fn from_sr(g: &[u32; 16], at: u32, sr: u16, op: u32) -> Change
 }
 
 // MOVE to SR, or vector 8 for a user.
-pub fn to_sr(g: &[u32; 16], at: u32, sr: u16, mem: &[u8], op: u32) -> Change
-    ensures { λ e. ⌜ e ≡ toSr (now (g .entry)) at sr (mapped (now (mem .entry))) op ⌝ }
+pub fn move_to_sr(g: &[u32; 16], at: u32, sr: u16, mem: &[u8], op: u32) -> Change
+    ensures { λ e. ⌜ e ≡ moveToSr (now (g .entry)) at sr (mapped (now (mem .entry))) op ⌝ }
 {
     let from = source(g, mem, plus(at, 2), op, Size::Word);
     let got = from.got;
@@ -141,8 +141,8 @@ pub fn to_sr(g: &[u32; 16], at: u32, sr: u16, mem: &[u8], op: u32) -> Change
 }
 
 // MOVE from CCR to Dn.
-pub fn from_ccr(g: &[u32; 16], at: u32, sr: u16, op: u32) -> Change
-    ensures { λ e. ⌜ e ≡ fromCcr (now (g .entry)) at sr op ⌝ }
+pub fn move_from_ccr(g: &[u32; 16], at: u32, sr: u16, op: u32) -> Change
+    ensures { λ e. ⌜ e ≡ moveFromCcr (now (g .entry)) at sr op ⌝ }
 {
     let next = plus(at, 2);
     let codes = kept_codes(sr);
@@ -152,8 +152,8 @@ pub fn from_ccr(g: &[u32; 16], at: u32, sr: u16, op: u32) -> Change
 }
 
 // MOVE to CCR.
-pub fn to_ccr(g: &[u32; 16], at: u32, mem: &[u8], op: u32) -> Change
-    ensures { λ e. ⌜ e ≡ toCcr (now (g .entry)) at (mapped (now (mem .entry))) op ⌝ }
+pub fn move_to_ccr(g: &[u32; 16], at: u32, mem: &[u8], op: u32) -> Change
+    ensures { λ e. ⌜ e ≡ moveToCcr (now (g .entry)) at (mapped (now (mem .entry))) op ⌝ }
 {
     let from = source(g, mem, plus(at, 2), op, Size::Word);
     let got = from.got;

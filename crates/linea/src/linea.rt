@@ -1,10 +1,10 @@
 // Line A by its rows.
 use super::mac::mac;
-use super::moves::copy;
-use super::moves::macsr_to_ccr;
 use super::moves::mov3q;
-use super::moves::to_emac;
-use super::moves::to_general;
+use super::moves::move_acc_to_acc;
+use super::moves::move_macsr_to_ccr;
+use super::moves::move_to_emac;
+use super::moves::move_to_general;
 use super::moves::unassigned;
 use address::changes::acting;
 use emac::accumulators::acc_of;
@@ -20,7 +20,7 @@ use word::registers::write_general;
 use word::word::plus;
 ghost use mathlib.Core.Path.{_≡_};
 ghost use Prim.Native.Nat.{_+_, _*_, _/_, _%_, _<_};
-ghost use Rattle.instructions.specs.LineA.{toGeneral, pair, fromAcc, lineA as lineAOf};
+ghost use Rattle.instructions.specs.LineA.{moveToGeneral, extPair, moveFromAcc, lineA as lineAOf};
 ghost use Rattle.manual.specs.Memory.{mapped};
 ghost use Rattle.manual.specs.Emac.{emacOf, has, readExt};
 
@@ -36,8 +36,8 @@ fn unit(macsr: u32, mask: u32, acc: &[u64; 4]) -> Emac
     }
 }
 
-fn from_acc(at: u32, sr: u16, e: Emac, op: u32) -> Change
-    ensures { λ r. ⌜ r ≡ fromAcc at sr e op ⌝ }
+fn move_from_acc(at: u32, sr: u16, e: Emac, op: u32) -> Change
+    ensures { λ r. ⌜ r ≡ moveFromAcc at sr e op ⌝ }
 {
     let i = op / 512 % 4;
     let k = mode_of(e.macsr);
@@ -52,10 +52,10 @@ fn from_acc(at: u32, sr: u16, e: Emac, op: u32) -> Change
 }
 
 fn from_ext(at: u32, sr: u16, e: Emac, op: u32) -> Change
-    ensures { λ r. ⌜ r ≡ toGeneral at sr op (readExt (has (e .macsr) 5) e (pair op)) ⌝ }
+    ensures { λ r. ⌜ r ≡ moveToGeneral at sr op (readExt (has (e .macsr) 5) e (extPair op)) ⌝ }
 {
     let fi = fractional(e.macsr);
-    to_general(at, sr, op, read_ext(fi, e, op / 0x400 % 2 * 2))
+    move_to_general(at, sr, op, read_ext(fi, e, op / 0x400 % 2 * 2))
 }
 
 // What a word of line A changes, taken for the instruction of a row.
@@ -73,16 +73,16 @@ pub fn instruction(
     ensures { λ e. ⌜ e ≡ lineAOf row (now (g .entry)) at sr (emacOf macsr mask (now (acc .entry))) (mapped (now (mem .entry))) op ⌝ }
 {
     match row {
-        rows::MACSR_CCR => macsr_to_ccr(at, macsr),
-        rows::COPY_ACC => copy(at, sr, op),
-        rows::READ_MACSR => to_general(at, sr, op, macsr),
-        rows::READ_MASK => to_general(at, sr, op, mask),
+        rows::MACSR_CCR => move_macsr_to_ccr(at, macsr),
+        rows::COPY_ACC => move_acc_to_acc(at, sr, op),
+        rows::READ_MACSR => move_to_general(at, sr, op, macsr),
+        rows::READ_MASK => move_to_general(at, sr, op, mask),
         rows::READ_ACCEXT => from_ext(at, sr, unit(macsr, mask, acc), op),
-        rows::WRITE_MACSR => to_emac(EmacPart::Macsr, g, at, sr, mem, op),
-        rows::WRITE_MASK => to_emac(EmacPart::Mask, g, at, sr, mem, op),
-        rows::READ_ACC => from_acc(at, sr, unit(macsr, mask, acc), op),
-        rows::WRITE_ACCEXT => to_emac(EmacPart::Ext, g, at, sr, mem, op),
-        rows::WRITE_ACC => to_emac(EmacPart::Acc, g, at, sr, mem, op),
+        rows::WRITE_MACSR => move_to_emac(EmacPart::Macsr, g, at, sr, mem, op),
+        rows::WRITE_MASK => move_to_emac(EmacPart::Mask, g, at, sr, mem, op),
+        rows::READ_ACC => move_from_acc(at, sr, unit(macsr, mask, acc), op),
+        rows::WRITE_ACCEXT => move_to_emac(EmacPart::Ext, g, at, sr, mem, op),
+        rows::WRITE_ACC => move_to_emac(EmacPart::Acc, g, at, sr, mem, op),
         rows::MOV3Q => mov3q(g, at, sr, mem, op),
         rows::MAC => mac(g, at, sr, mask, mem, op),
         _ => unassigned(g, at, sr, mem, op),

@@ -21,10 +21,10 @@ use word::word::plus;
 ghost use mathlib.Core.Path.{_≡_};
 ghost use Prim.Native.Nat.{_+_, _*_, _/_, _%_, _<_};
 ghost use Rattle.manual.specs.Memory.{mapped};
-ghost use Rattle.instructions.specs.LineA.{macsrToCcr, toGeneral, copy as copyOf, setting as settingOf, toEmac, threeBits, moveThree, unassigned as unassignedOf};
+ghost use Rattle.instructions.specs.LineA.{moveMacsrToCcr, moveToGeneral, moveAccToAcc as moveAccToAccOf, setting as settingOf, moveToEmac, threeBits, mov3q as mov3qOf, unassigned as unassignedOf};
 
-pub(crate) fn macsr_to_ccr(at: u32, macsr: u32) -> Change
-    ensures { λ e. ⌜ e ≡ macsrToCcr at macsr ⌝ }
+pub(crate) fn move_macsr_to_ccr(at: u32, macsr: u32) -> Change
+    ensures { λ e. ⌜ e ≡ moveMacsrToCcr at macsr ⌝ }
 {
     let next = plus(at, 2);
     let n = macsr / 8 % 2 == 1;
@@ -34,8 +34,8 @@ pub(crate) fn macsr_to_ccr(at: u32, macsr: u32) -> Change
     done(next, codes(false, n, z, v, false), none, none)
 }
 
-pub(crate) fn to_general(at: u32, sr: u16, op: u32, v: u32) -> Change
-    ensures { λ e. ⌜ e ≡ toGeneral at sr op v ⌝ }
+pub(crate) fn move_to_general(at: u32, sr: u16, op: u32, v: u32) -> Change
+    ensures { λ e. ⌜ e ≡ moveToGeneral at sr op v ⌝ }
 {
     let next = plus(at, 2);
     let kept = kept_codes(sr);
@@ -43,8 +43,8 @@ pub(crate) fn to_general(at: u32, sr: u16, op: u32, v: u32) -> Change
     done(next, kept, none, write_general(op, v))
 }
 
-pub(crate) fn copy(at: u32, sr: u16, op: u32) -> Change
-    ensures { λ e. ⌜ e ≡ copyOf at sr op ⌝ }
+pub(crate) fn move_acc_to_acc(at: u32, sr: u16, op: u32) -> Change
+    ensures { λ e. ⌜ e ≡ moveAccToAccOf at sr op ⌝ }
 {
     acting(
         sr,
@@ -65,7 +65,7 @@ fn setting(part: EmacPart, op: u32, v: u32) -> Action
     }
 }
 
-pub(crate) fn to_emac(
+pub(crate) fn move_to_emac(
     part: EmacPart,
     g: &[u32; 16],
     at: u32,
@@ -73,7 +73,7 @@ pub(crate) fn to_emac(
     mem: &[u8],
     op: u32,
 ) -> Change
-    ensures { λ e. ⌜ e ≡ toEmac part (now (g .entry)) at sr (mapped (now (mem .entry))) op ⌝ }
+    ensures { λ e. ⌜ e ≡ moveToEmac part (now (g .entry)) at sr (mapped (now (mem .entry))) op ⌝ }
 {
     let from = source(g, mem, plus(at, 2), op, Size::Long);
     let got = from.got;
@@ -94,7 +94,7 @@ fn three_bits(op: u32) -> u32
 }
 
 pub(crate) fn mov3q(g: &[u32; 16], at: u32, sr: u16, mem: &[u8], op: u32) -> Change
-    ensures { λ e. ⌜ e ≡ moveThree (now (g .entry)) at sr (mapped (now (mem .entry))) op ⌝ }
+    ensures { λ e. ⌜ e ≡ mov3qOf (now (g .entry)) at sr (mapped (now (mem .entry))) op ⌝ }
 {
     let v = three_bits(op);
     let to = destination(g, mem, plus(at, 2), op, Size::Long);

@@ -13,7 +13,7 @@ use Rattle.manual.specs.declared.Size.the-variants.{Byte, Word, Long}
 use Rattle.manual.specs.declared.Change.{Change}
 use Rattle.manual.specs.Memory.{Memory}
 use Rattle.instructions.specs.Rows.{rowCount, firstRow, placeIn}
-use Rattle.instructions.specs.Moves.{move, moveAddress, line1, line2, line3}
+use Rattle.instructions.specs.Moves.{move, movea, line1, line2, line3}
 
 unfoldable pub moveSize : ℕ → Size
 moveSize line = cond (eqb line 1) Byte (cond (eqb line 2) Long Word)
@@ -42,7 +42,7 @@ by-first first row x y = go (decLt row first) (decLt first row)
 module _ (row : ℕ) (g : List ℕ) (at sr : ℕ) (m : Memory) (op : ℕ) where
   by-size : (b c : Bool)
       → let z : Size = cond b Byte (cond c Long Word) in
-      cond (eqb row (cond b (firstRow 1) (cond c (firstRow 2) (firstRow 3)))) (moveAddress z g at sr m op) (move z g at sr m op)
+      cond (eqb row (cond b (firstRow 1) (cond c (firstRow 2) (firstRow 3)))) (movea z g at sr m op) (move z g at sr m op)
       ≡ cond b (line1 row g at sr m op) (cond c (line2 row g at sr m op) (line3 row g at sr m op))
   unfolding line1 line2 line3
   by-size true c = by-first (firstRow 1) row _ _
@@ -51,6 +51,6 @@ module _ (row : ℕ) (g : List ℕ) (at sr : ℕ) (m : Memory) (op : ℕ) where
 
   -- what the code does of it: z and r are the size and MOVEA's row that it finds
   pub as-one : (line : ℕ) (z : Size) (r : ℕ) → z ≡ moveSize line → r ≡ moveaRow line
-      → cond (eqb row r) (moveAddress z g at sr m op) (move z g at sr m op) ≡ moveLine line row g at sr m op
+      → cond (eqb row r) (movea z g at sr m op) (move z g at sr m op) ≡ moveLine line row g at sr m op
   unfolding moveSize moveaRow moveLine
   as-one line z r p q = rw (p, q) (by-size (eqb line 1) (eqb line 2))

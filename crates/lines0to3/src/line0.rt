@@ -33,10 +33,10 @@ use word::word::plus;
 ghost use mathlib.Core.Path.{_≡_};
 ghost use Prim.Native.Nat.{_+_, _*_, _/_, _%_, _<_};
 ghost use Rattle.manual.specs.Memory.{mapped};
-ghost use Rattle.instructions.specs.Line0.{bitReverse, byteReverse, findFirstOne, logicImmediate, sumImmediate, compareImmediate, bitOfData, bitOfByte, bitOperation, bitByRegister, bitByImmediate, line0 as line0Of};
+ghost use Rattle.instructions.specs.Line0.{bitrev as bitrevOf, byterev as byterevOf, ff1 as ff1Of, logicImmediate, sumImmediate, cmpi as cmpiOf, bitOfData, bitOfByte, bitOperation, bitByRegister, bitByImmediate, line0 as line0Of};
 
 fn bitrev(g: &[u32; 16], at: u32, sr: u16, op: u32) -> Change
-    ensures { λ e. ⌜ e ≡ bitReverse (now (g .entry)) at sr op ⌝ }
+    ensures { λ e. ⌜ e ≡ bitrevOf (now (g .entry)) at sr op ⌝ }
 {
     let next = plus(at, 2);
     let codes = kept_codes(sr);
@@ -50,7 +50,7 @@ fn bitrev(g: &[u32; 16], at: u32, sr: u16, op: u32) -> Change
 }
 
 fn byterev(g: &[u32; 16], at: u32, sr: u16, op: u32) -> Change
-    ensures { λ e. ⌜ e ≡ byteReverse (now (g .entry)) at sr op ⌝ }
+    ensures { λ e. ⌜ e ≡ byterevOf (now (g .entry)) at sr op ⌝ }
 {
     let next = plus(at, 2);
     let codes = kept_codes(sr);
@@ -64,7 +64,7 @@ fn byterev(g: &[u32; 16], at: u32, sr: u16, op: u32) -> Change
 }
 
 fn ff1(g: &[u32; 16], at: u32, sr: u16, op: u32) -> Change
-    ensures { λ e. ⌜ e ≡ findFirstOne (now (g .entry)) at sr op ⌝ }
+    ensures { λ e. ⌜ e ≡ ff1Of (now (g .entry)) at sr op ⌝ }
 {
     let v = data(g, op);
     let next = plus(at, 2);
@@ -106,7 +106,7 @@ pub fn sum_immediate(add: bool, g: &[u32; 16], at: u32, mem: &[u8], op: u32) -> 
 }
 
 fn cmpi(z: Size, g: &[u32; 16], at: u32, sr: u16, mem: &[u8], op: u32) -> Change
-    ensures { λ e. ⌜ e ≡ compareImmediate z (now (g .entry)) at sr (mapped (now (mem .entry))) op ⌝ }
+    ensures { λ e. ⌜ e ≡ cmpiOf z (now (g .entry)) at sr (mapped (now (mem .entry))) op ⌝ }
 {
     let pc = plus(at, 2);
     let v = match value(g, mem, pc, Operand::Immediate, z) {
@@ -150,7 +150,7 @@ fn bit_of_byte(g: &[u32; 16], pc: u32, sr: u16, mem: &[u8], op: u32, n: u32) -> 
     }
 }
 
-fn bitop(g: &[u32; 16], pc: u32, sr: u16, mem: &[u8], op: u32, n: u32) -> Change
+fn bit_operation(g: &[u32; 16], pc: u32, sr: u16, mem: &[u8], op: u32, n: u32) -> Change
     ensures { λ e. ⌜ e ≡ bitOperation (now (g .entry)) pc sr (mapped (now (mem .entry))) op n ⌝ }
 {
     if op / 8 % 8 == 0 {
@@ -163,7 +163,7 @@ fn bitop(g: &[u32; 16], pc: u32, sr: u16, mem: &[u8], op: u32, n: u32) -> Change
 fn bit_by_register(g: &[u32; 16], at: u32, sr: u16, mem: &[u8], op: u32) -> Change
     ensures { λ e. ⌜ e ≡ bitByRegister (now (g .entry)) at sr (mapped (now (mem .entry))) op ⌝ }
 {
-    bitop(g, plus(at, 2), sr, mem, op, data(g, op / 512))
+    bit_operation(g, plus(at, 2), sr, mem, op, data(g, op / 512))
 }
 
 fn bit_by_immediate(g: &[u32; 16], at: u32, sr: u16, mem: &[u8], op: u32) -> Change
@@ -173,7 +173,7 @@ fn bit_by_immediate(g: &[u32; 16], at: u32, sr: u16, mem: &[u8], op: u32) -> Cha
         Got::Value(n) => n,
         Got::Fault(x) => return refused(x),
     };
-    bitop(g, plus(at, 4), sr, mem, op, n)
+    bit_operation(g, plus(at, 4), sr, mem, op, n)
 }
 
 // What a word of line 0 changes, taken for the instruction of a row.

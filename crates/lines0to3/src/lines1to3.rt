@@ -26,7 +26,7 @@ ghost use mathlib.Core.Path.{_≡_};
 ghost use Prim.Native.Nat.{_+_, _*_, _/_, _%_, _<_};
 ghost use Rattle.manual.specs.Memory.{mapped};
 ghost use Rattle.manual.specs.Registers.{written as writtenOf};
-ghost use Rattle.instructions.specs.Moves.{moveTo, move as moveOf, moveAddress};
+ghost use Rattle.instructions.specs.Moves.{moveTo, move as moveOf, movea as moveaOf};
 ghost use Rattle.lines0to3.specs.MoveLines.{moveSize, moveaRow, moveLine};
 
 fn move_to(
@@ -79,8 +79,8 @@ fn op_move(z: Size, g: &[u32; 16], at: u32, sr: u16, mem: &[u8], op: u32) -> Cha
     }
 }
 
-fn op_movea(z: Size, g: &[u32; 16], at: u32, sr: u16, mem: &[u8], op: u32) -> Change
-    ensures { λ e. ⌜ e ≡ moveAddress z (now (g .entry)) at sr (mapped (now (mem .entry))) op ⌝ }
+fn movea(z: Size, g: &[u32; 16], at: u32, sr: u16, mem: &[u8], op: u32) -> Change
+    ensures { λ e. ⌜ e ≡ moveaOf z (now (g .entry)) at sr (mapped (now (mem .entry))) op ⌝ }
 {
     let from = source(g, mem, plus(at, 2), op, z);
     let got = from.got;
@@ -131,7 +131,7 @@ pub fn instruction(
 {
     let z = move_size(line);
     if row == movea_row(line) {
-        op_movea(z, g, at, sr, mem, op)
+        movea(z, g, at, sr, mem, op)
     } else {
         op_move(z, g, at, sr, mem, op)
     }

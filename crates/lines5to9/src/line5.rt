@@ -1,6 +1,6 @@
 // Line 5: ADDQ, SUBQ, Scc and TPF.
+use super::sums::add_to_place;
 use super::sums::more_or_less;
-use super::sums::to_place;
 use address::changes::done;
 use address::changes::illegal;
 use address::changes::jump;
@@ -20,7 +20,7 @@ use word::word::plus;
 use word::word::size_of;
 ghost use mathlib.Core.Path.{_≡_};
 ghost use Prim.Native.Nat.{_+_, _*_, _/_, _%_, _<_};
-ghost use Rattle.instructions.specs.Line5.{quickNumber, quickAdds, quickAddress, quickData, quick as quickOf, setByCondition, skip as skipOf, line5 as line5Of};
+ghost use Rattle.instructions.specs.Line5.{quickNumber, quickAdds, addqAddress, addqData, addq as addqOf, scc as sccOf, tpf as tpfOf, line5 as line5Of};
 ghost use Rattle.manual.specs.Memory.{mapped};
 ghost use Rattle.manual.specs.Differences.{anySize};
 
@@ -33,8 +33,8 @@ pub fn quick_number(op: u32) -> u32
 }
 
 // ADDQ and SUBQ to An.
-pub fn quick_address(g: &[u32; 16], at: u32, sr: u16, op: u32) -> Change
-    ensures { λ e. ⌜ e ≡ quickAddress (now (g .entry)) at sr op ⌝ }
+pub fn addq_address(g: &[u32; 16], at: u32, sr: u16, op: u32) -> Change
+    ensures { λ e. ⌜ e ≡ addqAddress (now (g .entry)) at sr op ⌝ }
 {
     let next = plus(at, 2);
     let codes = kept_codes(sr);
@@ -43,8 +43,8 @@ pub fn quick_address(g: &[u32; 16], at: u32, sr: u16, op: u32) -> Change
     done(next, codes, none, write_address(op, r))
 }
 
-fn quick_data(g: &[u32; 16], at: u32, op: u32) -> Change
-    ensures { λ e. ⌜ e ≡ quickData (now (g .entry)) at op ⌝ }
+fn addq_data(g: &[u32; 16], at: u32, op: u32) -> Change
+    ensures { λ e. ⌜ e ≡ addqData (now (g .entry)) at op ⌝ }
 {
     let z = size_of(op / 64);
     let old = data(g, op);
@@ -55,20 +55,20 @@ fn quick_data(g: &[u32; 16], at: u32, op: u32) -> Change
     done(next, codes, none, write_data(op, merged(z, old, r.value)))
 }
 
-fn quick(g: &[u32; 16], at: u32, mem: &[u8], op: u32) -> Change
-    ensures { λ e. ⌜ e ≡ quickOf (now (g .entry)) at (mapped (now (mem .entry))) op ⌝ }
+fn addq(g: &[u32; 16], at: u32, mem: &[u8], op: u32) -> Change
+    ensures { λ e. ⌜ e ≡ addqOf (now (g .entry)) at (mapped (now (mem .entry))) op ⌝ }
 {
     if op / 8 % 8 == 0 {
-        quick_data(g, at, op)
+        addq_data(g, at, op)
     } else {
         let z = size_of(op / 64);
-        to_place(op / 256 % 2 == 0, z, g, at, mem, op, quick_number(op))
+        add_to_place(op / 256 % 2 == 0, z, g, at, mem, op, quick_number(op))
     }
 }
 
 // Scc: the low byte of Dn all ones where the condition holds, else 0.
 pub fn scc(g: &[u32; 16], at: u32, sr: u16, op: u32) -> Change
-    ensures { λ e. ⌜ e ≡ setByCondition (now (g .entry)) at sr op ⌝ }
+    ensures { λ e. ⌜ e ≡ sccOf (now (g .entry)) at sr op ⌝ }
 {
     let next = plus(at, 2);
     let codes = kept_codes(sr);
@@ -91,9 +91,9 @@ pub fn scc(g: &[u32; 16], at: u32, sr: u16, op: u32) -> Change
     }
 }
 
-fn skip(n: u32, at: u32, sr: u16) -> Change
+fn tpf(n: u32, at: u32, sr: u16) -> Change
     requires { ⌜ n < 8 ⌝ }
-    ensures { λ e. ⌜ e ≡ skipOf n at sr ⌝ }
+    ensures { λ e. ⌜ e ≡ tpfOf n at sr ⌝ }
 {
     jump(sr, plus(at, 2 + n))
 }
@@ -103,14 +103,14 @@ pub fn instruction(row: u8, g: &[u32; 16], at: u32, sr: u16, mem: &[u8], op: u32
     ensures { λ e. ⌜ e ≡ line5Of row (now (g .entry)) at sr (mapped (now (mem .entry))) op ⌝ }
 {
     match row {
-        rows::TPF_W => skip(2, at, sr),
-        rows::TPF_L => skip(4, at, sr),
-        rows::TPF => skip(0, at, sr),
-        rows::ADDQ_AN_B => quick_address(g, at, sr, op),
-        rows::ADDQ_AN_W => quick_address(g, at, sr, op),
-        rows::ADDQ_AN_L => quick_address(g, at, sr, op),
+        rows::TPF_W => tpf(2, at, sr),
+        rows::TPF_L => tpf(4, at, sr),
+        rows::TPF => tpf(0, at, sr),
+        rows::ADDQ_AN_B => addq_address(g, at, sr, op),
+        rows::ADDQ_AN_W => addq_address(g, at, sr, op),
+        rows::ADDQ_AN_L => addq_address(g, at, sr, op),
         rows::SCC => scc(g, at, sr, op),
         rows::ILL_50C0 => illegal(at, sr),
-        _ => quick(g, at, mem, op),
+        _ => addq(g, at, mem, op),
     }
 }

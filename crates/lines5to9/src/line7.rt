@@ -15,11 +15,11 @@ use word::word::size_of;
 ghost use mathlib.Core.Path.{_≡_};
 ghost use Prim.Native.Nat.{_+_, _*_, _/_, _%_};
 ghost use Rattle.manual.specs.Memory.{mapped};
-ghost use Rattle.instructions.specs.Line7.{moveQuick, moveSigned, moveZero, line7 as line7Of};
+ghost use Rattle.instructions.specs.Line7.{moveq as moveqOf, mvs as mvsOf, mvz as mvzOf, line7 as line7Of};
 
 // MOVEQ: a byte, sign-extended, to Dn.
 pub fn moveq(at: u32, sr: u16, op: u32) -> Change
-    ensures { λ e. ⌜ e ≡ moveQuick at sr op ⌝ }
+    ensures { λ e. ⌜ e ≡ moveqOf at sr op ⌝ }
 {
     let v = sign_extended(Size::Byte, op);
     let next = plus(at, 2);
@@ -28,7 +28,7 @@ pub fn moveq(at: u32, sr: u16, op: u32) -> Change
 }
 
 fn mvs(g: &[u32; 16], at: u32, sr: u16, mem: &[u8], op: u32) -> Change
-    ensures { λ e. ⌜ e ≡ moveSigned (now (g .entry)) at sr (mapped (now (mem .entry))) op ⌝ }
+    ensures { λ e. ⌜ e ≡ mvsOf (now (g .entry)) at sr (mapped (now (mem .entry))) op ⌝ }
 {
     let z = size_of(op / 64 % 2);
     let from = source(g, mem, plus(at, 2), op, z);
@@ -45,7 +45,7 @@ fn mvs(g: &[u32; 16], at: u32, sr: u16, mem: &[u8], op: u32) -> Change
 }
 
 fn mvz(g: &[u32; 16], at: u32, sr: u16, mem: &[u8], op: u32) -> Change
-    ensures { λ e. ⌜ e ≡ moveZero (now (g .entry)) at sr (mapped (now (mem .entry))) op ⌝ }
+    ensures { λ e. ⌜ e ≡ mvzOf (now (g .entry)) at sr (mapped (now (mem .entry))) op ⌝ }
 {
     let from = source(g, mem, plus(at, 2), op, size_of(op / 64 % 2));
     let got = from.got;

@@ -26,14 +26,14 @@ use word::word::sign_extended;
 use word::word::size_of;
 ghost use mathlib.Core.Path.{_≡_};
 ghost use Prim.Native.Nat.{_+_, _*_, _/_, _%_};
-ghost use Rattle.instructions.specs.Line9D.{toData, toPlace, toMemory, moreOrLess, toAddress, withX, sums as sumsOf};
+ghost use Rattle.instructions.specs.Line9D.{addToData, addToPlace, addToMemory, moreOrLess, adda as addaOf, addx as addxOf, sums as sumsOf};
 ghost use Rattle.manual.specs.Memory.{mapped};
 ghost use Rattle.manual.specs.Differences.{anySize};
 ghost use Rattle.instructions.specs.Rows.{placeIn};
 
 // ADD to Dn, or SUB.
-pub fn to_data(add: bool, g: &[u32; 16], at: u32, mem: &[u8], op: u32) -> Change
-    ensures { λ e. ⌜ e ≡ toData add (now (g .entry)) at (mapped (now (mem .entry))) op ⌝ }
+pub fn add_to_data(add: bool, g: &[u32; 16], at: u32, mem: &[u8], op: u32) -> Change
+    ensures { λ e. ⌜ e ≡ addToData add (now (g .entry)) at (mapped (now (mem .entry))) op ⌝ }
 {
     let z = size_of(op / 64);
     let from = source(g, mem, plus(at, 2), op, z);
@@ -56,8 +56,16 @@ pub fn to_data(add: bool, g: &[u32; 16], at: u32, mem: &[u8], op: u32) -> Change
 }
 
 // A number added to the value at an operand's place, or taken from it.
-pub fn to_place(add: bool, z: Size, g: &[u32; 16], at: u32, mem: &[u8], op: u32, n: u32) -> Change
-    ensures { λ e. ⌜ e ≡ toPlace add z (now (g .entry)) at (mapped (now (mem .entry))) op n ⌝ }
+pub fn add_to_place(
+    add: bool,
+    z: Size,
+    g: &[u32; 16],
+    at: u32,
+    mem: &[u8],
+    op: u32,
+    n: u32,
+) -> Change
+    ensures { λ e. ⌜ e ≡ addToPlace add z (now (g .entry)) at (mapped (now (mem .entry))) op n ⌝ }
 {
     let to = destination(g, mem, plus(at, 2), op, z);
     let place = to.place;
@@ -71,10 +79,10 @@ pub fn to_place(add: bool, z: Size, g: &[u32; 16], at: u32, mem: &[u8], op: u32,
 }
 
 // ADD to memory, or SUB.
-pub fn to_memory(add: bool, g: &[u32; 16], at: u32, mem: &[u8], op: u32) -> Change
-    ensures { λ e. ⌜ e ≡ toMemory add (now (g .entry)) at (mapped (now (mem .entry))) op ⌝ }
+pub fn add_to_memory(add: bool, g: &[u32; 16], at: u32, mem: &[u8], op: u32) -> Change
+    ensures { λ e. ⌜ e ≡ addToMemory add (now (g .entry)) at (mapped (now (mem .entry))) op ⌝ }
 {
-    to_place(add, size_of(op / 64), g, at, mem, op, data(g, op / 512))
+    add_to_place(add, size_of(op / 64), g, at, mem, op, data(g, op / 512))
 }
 
 // A number added to a long, or taken from it, wrapped.
@@ -85,16 +93,8 @@ pub fn more_or_less(add: bool, old: u32, v: u32) -> u32
 }
 
 // ADDA, or SUBA.
-pub fn to_address(
-    add: bool,
-    z: Size,
-    g: &[u32; 16],
-    at: u32,
-    sr: u16,
-    mem: &[u8],
-    op: u32,
-) -> Change
-    ensures { λ e. ⌜ e ≡ toAddress add z (now (g .entry)) at sr (mapped (now (mem .entry))) op ⌝ }
+pub fn adda(add: bool, z: Size, g: &[u32; 16], at: u32, sr: u16, mem: &[u8], op: u32) -> Change
+    ensures { λ e. ⌜ e ≡ addaOf add z (now (g .entry)) at sr (mapped (now (mem .entry))) op ⌝ }
 {
     let from = source(g, mem, plus(at, 2), op, z);
     let got = from.got;
@@ -111,8 +111,8 @@ pub fn to_address(
 }
 
 // ADDX, or SUBX.
-pub fn with_x(add: bool, g: &[u32; 16], at: u32, sr: u16, op: u32) -> Change
-    ensures { λ e. ⌜ e ≡ withX add (now (g .entry)) at sr op ⌝ }
+pub fn addx(add: bool, g: &[u32; 16], at: u32, sr: u16, op: u32) -> Change
+    ensures { λ e. ⌜ e ≡ addxOf add (now (g .entry)) at sr op ⌝ }
 {
     let z = size_of(op / 64);
     let old = data(g, op / 512);
@@ -153,15 +153,15 @@ pub fn by_row(
     ensures { λ e. ⌜ e ≡ sumsOf first add row (now (g .entry)) at sr (mapped (now (mem .entry))) op ⌝ }
 {
     match place_in(first, row) {
-        0 => with_x(add, g, at, sr, op),
-        1 => with_x(add, g, at, sr, op),
-        2 => with_x(add, g, at, sr, op),
+        0 => addx(add, g, at, sr, op),
+        1 => addx(add, g, at, sr, op),
+        2 => addx(add, g, at, sr, op),
         3 => illegal(at, sr),
         4 => illegal(at, sr),
         5 => illegal(at, sr),
-        6 => to_address(add, Size::Word, g, at, sr, mem, op),
-        7 => to_address(add, Size::Long, g, at, sr, mem, op),
-        8 => to_data(add, g, at, mem, op),
-        _ => to_memory(add, g, at, mem, op),
+        6 => adda(add, Size::Word, g, at, sr, mem, op),
+        7 => adda(add, Size::Long, g, at, sr, mem, op),
+        8 => add_to_data(add, g, at, mem, op),
+        _ => add_to_memory(add, g, at, mem, op),
     }
 }

@@ -19,7 +19,7 @@ use word::word::plus;
 use word::word::size_of;
 ghost use mathlib.Core.Path.{_≡_};
 ghost use Prim.Native.Nat.{_+_, _*_, _/_, _%_, _<_};
-ghost use Rattle.instructions.specs.LineC.{logicToData, product as productOf, multiplyWords, lineC as lineCOf};
+ghost use Rattle.instructions.specs.LineC.{logicToData, product as productOf, mulW, lineC as lineCOf};
 ghost use Rattle.manual.specs.Memory.{mapped};
 ghost use Rattle.manual.specs.Differences.{anySize};
 
@@ -53,7 +53,7 @@ pub fn product(signs: bool, x: u32, y: u32) -> u32
 }
 
 fn mul_w(signs: bool, g: &[u32; 16], at: u32, sr: u16, mem: &[u8], op: u32) -> Change
-    ensures { λ e. ⌜ e ≡ multiplyWords signs (now (g .entry)) at sr (mapped (now (mem .entry))) op ⌝ }
+    ensures { λ e. ⌜ e ≡ mulW signs (now (g .entry)) at sr (mapped (now (mem .entry))) op ⌝ }
 {
     let from = source(g, mem, plus(at, 2), op, Size::Word);
     let got = from.got;

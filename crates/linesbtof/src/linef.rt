@@ -21,10 +21,10 @@ use word::word::size_of;
 ghost use mathlib.Core.Path.{_≡_};
 ghost use Prim.Native.Nat.{_+_, _*_, _/_, _%_, _<_};
 ghost use Rattle.manual.specs.Memory.{mapped};
-ghost use Rattle.instructions.specs.LineF.{writeDebug, cacheLine, writeDebugData, lineF as lineFOf};
+ghost use Rattle.instructions.specs.LineF.{wdebug as wdebugOf, cacheLine, wddata as wddataOf, lineF as lineFOf};
 
 fn wdebug(g: &[u32; 16], at: u32, sr: u16, mem: &[u8], op: u32) -> Change
-    ensures { λ e. ⌜ e ≡ writeDebug (now (g .entry)) at sr (mapped (now (mem .entry))) op ⌝ }
+    ensures { λ e. ⌜ e ≡ wdebugOf (now (g .entry)) at sr (mapped (now (mem .entry))) op ⌝ }
 {
     let target = operand(op / 8 % 8, op % 8);
     let pc = plus(at, 2);
@@ -48,7 +48,7 @@ fn cache_line(at: u32, sr: u16) -> Change
 }
 
 fn wddata(g: &[u32; 16], at: u32, sr: u16, mem: &[u8], op: u32) -> Change
-    ensures { λ e. ⌜ e ≡ writeDebugData (now (g .entry)) at sr (mapped (now (mem .entry))) op ⌝ }
+    ensures { λ e. ⌜ e ≡ wddataOf (now (g .entry)) at sr (mapped (now (mem .entry))) op ⌝ }
 {
     let to = destination(g, mem, plus(at, 2), op, size_of(op / 64));
     let place = to.place;

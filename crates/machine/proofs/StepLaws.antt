@@ -15,7 +15,7 @@ use Rattle.manual.specs.declared.Stored.the-variants.{Done as Taken, Fault as N
 use Rattle.manual.specs.declared.Reply.{Reply}
 use Rattle.manual.specs.declared.Reply.the-variants.{Done, Stopped}
 use Rattle.manual.specs.declared.Action.{Action}
-use Rattle.manual.specs.declared.Action.the-variants.{Nothing, Store, StoreMany, LoadMany, Enter, Return, Status, Stop, PushStatus, Halt, Other, Accumulate, SetAcc, SetExt, SetMacsr, SetMask, CopyAcc, ClearAcc, Refuse}
+use Rattle.manual.specs.declared.Action.the-variants.{Nothing, Store, StoreMany, LoadMany, Enter, Return, Status, Stop, PushStatus, Halt, SetOther, Accumulate, SetAcc, SetExt, SetMacsr, SetMask, CopyAcc, ClearAcc, Refuse}
 use Rattle.manual.specs.declared.Change.{Change}
 use Rattle.manual.specs.Word.{plus, minus}
 use Rattle.manual.specs.Registers.{addressOf, applied}
@@ -23,7 +23,7 @@ use Rattle.manual.specs.Memory.{Storage, Memory, access, load, storing, accessM
 use Rattle.manual.specs.Reply.{Outcome, outcome, unchanged, refusal, isDone, accessing, loading, taking}
 use Rattle.manual.specs.Lent.{Lent, memoryOf, firstRefusal}
 use Rattle.manual.specs.Differences.{vectorPlace}
-use Rattle.manual.specs.Exceptions.{setSr, handling, pcPlace, framePlace, entered, left}
+use Rattle.manual.specs.Exceptions.{setSr, handlerSr, pcPlace, framePlace, entered, returned}
 use Rattle.instructions.specs.Perform.{statusPushed, act, perform}
 use Rattle.instructions.specs.Step.{execute, step}
 use Rattle.state.specs.ReplyLaws.{done-is}
@@ -62,14 +62,14 @@ module _ (given : Cpu) (m : Memory) where
   of-entry : (s : Cpu) (level : Level) (n pc : ℕ) → NoVector (entered given s level n pc m)
   unfolding entered
   of-entry s level n pc =
-      let sp : ℕ = addressOf (setSr (handling level (s .sr)) s .r) 7 in
+      let sp : ℕ = addressOf (setSr (handlerSr level (s .sr)) s .r) 7 in
       by-access (access m (pcPlace sp) 4) _ λ high.
       by-access (access m (framePlace sp) 4) _ λ low.
       by-access (access m (vectorPlace (s .vbr) n) 4) _ λ table.
       done n
 
-  of-return : (s : Cpu) → NoVector (left given s m)
-  unfolding left
+  of-return : (s : Cpu) → NoVector (returned given s m)
+  unfolding returned
   of-return s =
       let sp : ℕ = addressOf (s .r) 7 in
       by-load (load m sp Long) _ λ w.
@@ -91,7 +91,7 @@ module _ (given : Cpu) (m : Memory) where
   of-action s (Stop v) = λ h. refl
   of-action s (PushStatus v) = of-push s v
   of-action s Halt = λ h. refl
-  of-action s (Other v) = λ h. refl
+  of-action s (SetOther v) = λ h. refl
   of-action s (Accumulate i scale sub x y) = λ h. refl
   of-action s (SetAcc i v) = λ h. refl
   of-action s (SetExt i v) = λ h. refl

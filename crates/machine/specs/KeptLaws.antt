@@ -8,7 +8,7 @@ use Rattle.manual.specs.declared.Emac.{Emac}
 use Rattle.manual.specs.declared.Size.the-variants.{Long}
 use Rattle.manual.specs.declared.Level.the-variants.{Kept}
 use Rattle.manual.specs.declared.Action.{Action}
-use Rattle.manual.specs.declared.Action.the-variants.{Nothing, Store, StoreMany, LoadMany, Enter, Return, Status, Stop, PushStatus, Halt, Other, Accumulate, SetAcc, SetExt, SetMacsr, SetMask, CopyAcc, ClearAcc, Refuse}
+use Rattle.manual.specs.declared.Action.the-variants.{Nothing, Store, StoreMany, LoadMany, Enter, Return, Status, Stop, PushStatus, Halt, SetOther, Accumulate, SetAcc, SetExt, SetMacsr, SetMask, CopyAcc, ClearAcc, Refuse}
 use Rattle.manual.specs.declared.Change.{Change}
 use Rattle.manual.specs.Word.{minus}
 use Rattle.manual.specs.Registers.{addressOf, withAddress, withRegisters, withEmac, applied}
@@ -18,7 +18,7 @@ use Rattle.manual.specs.Exceptions.{setSr}
 use Rattle.manual.specs.Emac.{accumulate, moveTo, setExt, setMacsr, setMask, copyAcc, clearAcc}
 use Rattle.instructions.specs.Perform.{statusPushed, act, perform}
 use Rattle.state.specs.AdmittedLaws.{admitted-emac, registers-admitted, address-admitted, other-admitted, stopped-admitted, emac-admitted, applied-admitted, set-sr-admitted}
-use Rattle.exceptions.specs.EntryAdmitted.{refusal-admitted, taking-admitted, entered-admitted, left-admitted}
+use Rattle.exceptions.specs.EntryAdmitted.{refusal-admitted, taking-admitted, entered-admitted, returned-admitted}
 use Rattle.emac.specs.EmacKept.{accumulate-kept, set-macsr-kept, move-to-kept, copy-acc-kept, clear-acc-kept, set-ext-kept, set-mask-kept}
 
 module _ (given s : Cpu) (m : Memory) (k : admitted given ≡ true) (h : admitted s ≡ true) where
@@ -41,12 +41,12 @@ module _ (given s : Cpu) (m : Memory) (k : admitted given ≡ true) (h : admitte
   act-admitted (StoreMany mask a) = taking-admitted given m k (accessMany 16 m mask a) _ h
   act-admitted (LoadMany mask a) = taking-admitted given m k (accessMany 16 m mask a) _ (registers-admitted (loadedMany 16 m 0 mask a (s .r)) s h)
   act-admitted (Enter vector pc) = entered-admitted given m k s Kept vector pc h
-  act-admitted Return = left-admitted given m k s h
+  act-admitted Return = returned-admitted given m k s h
   act-admitted (Status v) = set-sr-admitted v s unit
   act-admitted (Stop v) = stopped-admitted true (setSr v s) (set-sr-admitted v s unit)
   act-admitted (PushStatus v) = pushed-admitted v
   act-admitted Halt = stopped-admitted true s h
-  act-admitted (Other v) = other-admitted v s h
+  act-admitted (SetOther v) = other-admitted v s h
   act-admitted (Accumulate i scale sub x y) = unit-admitted (accumulate (s .emac) i scale sub x y) (accumulate-kept (s .emac) unit i scale sub x y)
   act-admitted (SetAcc i v) = unit-admitted (moveTo (s .emac) i v) (move-to-kept (s .emac) unit i v)
   act-admitted (SetExt i v) = unit-admitted (setExt (s .emac) i v) (set-ext-kept (s .emac) unit i v)

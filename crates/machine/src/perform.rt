@@ -8,8 +8,8 @@ use emac::accumulators::set_mask;
 use emac::sum::accumulate;
 use exceptions::entry::entered;
 use exceptions::entry::faulted;
-use exceptions::entry::left;
 use exceptions::entry::refusal;
+use exceptions::entry::returned;
 use manual::Action;
 use manual::Change;
 use manual::Cpu;
@@ -92,12 +92,12 @@ pub fn perform(given: Cpu, change: Change, mem: &mut [u8]) -> Stepped
             }
         }
         Action::Enter(vector, pc) => entered(given, cpu, Level::Kept, vector, pc, mem),
-        Action::Return => left(given, cpu, &*mem),
+        Action::Return => returned(given, cpu, &*mem),
         Action::Status(v) => completed(with_status(cpu, v)),
         Action::Stop(v) => completed(with_stopped(with_status(cpu, v), true)),
         Action::PushStatus(v) => push_status(given, cpu, v, mem),
         Action::Halt => completed(with_stopped(cpu, true)),
-        Action::Other(v) => completed(with_other(cpu, v)),
+        Action::SetOther(v) => completed(with_other(cpu, v)),
         Action::Accumulate(i, scale, sub, x, y) => {
             completed(with_emac(cpu, accumulate(e, i, scale, sub, x, y)))
         }

@@ -15,7 +15,7 @@ logic Or a b = bitOr a b
 logic Eor a b = bitXor a b
 
 -- bit n of v
-unfoldable pub bitOf : ℕ → ℕ → Bool
+abbrev pub bitOf : ℕ → ℕ → Bool
 bitOf n v = eqb (v / 2 ^ n % 2) 1
 
 -- v with bit n as told

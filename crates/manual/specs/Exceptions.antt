@@ -44,9 +44,9 @@ setSr v s =
     (withSr (status v) s)
 
 -- the status register in a handler: S is set, T is cleared, and the mask is raised to the level, if any
-unfoldable pub handling : Level → ℕ → ℕ
-handling Kept sr = 0x2000 + keptM sr + sr % 0x1000
-handling (To level) sr = 0x2000 + keptM sr + givenLevel level + sr % 0x100
+unfoldable pub handlerSr : Level → ℕ → ℕ
+handlerSr Kept sr = 0x2000 + keptM sr + sr % 0x1000
+handlerSr (To level) sr = 0x2000 + keptM sr + givenLevel level + sr % 0x100
 
 -- ---- the frame: two longs at a multiple of 4, the lower one with the format, the vector and the status register
 
@@ -72,7 +72,7 @@ handlerState t frame handler = withStopped false (withPc handler (withAddress 7 
 -- frame over the vector's place is what is read. All three accesses are tested first
 unfoldable pub entered : Cpu → Cpu → Level → ℕ → ℕ → Memory → Outcome
 entered given s level vector pc m =
-    let t : Cpu = setSr (handling level (s .sr)) s in
+    let t : Cpu = setSr (handlerSr level (s .sr)) s in
     let sp : ℕ = addressOf (t .r) 7 in
     accessing given m (access m (pcPlace sp) 4) λ high.
     accessing given m (access m (framePlace sp) 4) λ low.
@@ -82,15 +82,15 @@ entered given s level vector pc m =
 
 -- ---- return: A7 goes up past the frame and by what the format says, then the status register and the program counter are the frame's
 
-unfoldable pub returned : Cpu → ℕ → ℕ → ℕ → Cpu
-returned s sp w pc = withPc pc (setSr w (withAddress 7 (plus sp (frameBytes (w / 0x1000_0000))) s))
+unfoldable pub returnState : Cpu → ℕ → ℕ → ℕ → Cpu
+returnState s sp w pc = withPc pc (setSr w (withAddress 7 (plus sp (frameBytes (w / 0x1000_0000))) s))
 
-unfoldable pub left : Cpu → Cpu → Memory → Outcome
-left given s m =
+unfoldable pub returned : Cpu → Cpu → Memory → Outcome
+returned given s m =
     let sp : ℕ = addressOf (s .r) 7 in
     loading given m (load m sp Long) λ w.
     loading given m (load m (plus sp 4) Long) λ pc.
-    completed (returned s sp w pc) 0 (storageOf m)
+    completed (returnState s sp w pc) 0 (storageOf m)
 
 -- ---- the calls
 
@@ -116,7 +116,7 @@ interrupt s l vector level =
     (unchanged s OutOfRange m))
 
 unfoldable pub rte : Cpu → Lent → Outcome
-rte s l = checked s l (left s s (memoryOf l))
+rte s l = checked s l (returned s s (memoryOf l))
 
 -- a push: A7 goes down by 4, and the long is stored there
 unfoldable pub push32 : Cpu → Lent → ℕ → Outcome

@@ -6,22 +6,23 @@ use lib.Dec.{ltb, leb, eqb}
 use lib.IntN.{pos, _+ℤ_, _-ℤ_}
 use Rattle.manual.specs.declared.Size.{Size}
 use Rattle.manual.specs.declared.Sum.{Sum}
+use Rattle.manual.specs.Bits.{bitOf, withBit}
 use Rattle.manual.specs.Word.{bit, cut, half, numbers, signed, fits}
 
 abbrev pub flagX : ℕ → Bool
-flagX sr = eqb (sr / 16 % 2) 1
+flagX sr = bitOf 4 sr
 
 abbrev pub flagN : ℕ → Bool
-flagN sr = eqb (sr / 8 % 2) 1
+flagN sr = bitOf 3 sr
 
 abbrev pub flagZ : ℕ → Bool
-flagZ sr = eqb (sr / 4 % 2) 1
+flagZ sr = bitOf 2 sr
 
 abbrev pub flagV : ℕ → Bool
-flagV sr = eqb (sr / 2 % 2) 1
+flagV sr = bitOf 1 sr
 
 abbrev pub flagC : ℕ → Bool
-flagC sr = eqb (sr % 2) 1
+flagC sr = bitOf 0 sr
 
 -- the five condition codes as a number
 unfoldable pub codes : Bool → Bool → Bool → Bool → Bool → ℕ
@@ -80,4 +81,4 @@ extendedCodes sr r = codes (r .carry) (r .negative) (r .zero && flagZ sr) (r .ov
 
 -- of a bit that is tested: Z is set if the bit was clear, and no other code changes
 unfoldable pub testCodes : ℕ → Bool → ℕ
-testCodes sr clear = codes (flagX sr) (flagN sr) clear (flagV sr) (flagC sr)
+testCodes sr clear = withBit 2 clear (keptCodes sr)

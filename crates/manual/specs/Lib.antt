@@ -1,4 +1,5 @@
 pub mod Word
+pub mod Bits
 pub mod Registers
 pub mod Differences
 pub mod Flags
@@ -7,7 +8,6 @@ pub mod Memory
 pub mod Address
 pub mod Reply
 pub mod Change
-pub mod Bits
 pub mod Shift
 pub mod Multiply
 pub mod Divide

@@ -181,7 +181,7 @@ pub enum Action {
     Stop(u32),
     PushStatus(u32),
     Halt,
-    Other(u32),
+    SetOther(u32),
     Accumulate(u32, u32, bool, u32, u32),
     SetAcc(u32, u32),
     SetExt(u32, u32),

@@ -7,7 +7,7 @@ use line4::single::extb;
 use line4::single::swap;
 use lines0to3::line0::logic_immediate;
 use lines0to3::line0::sum_immediate;
-use lines5to9::line5::quick_address;
+use lines5to9::line5::addq_address;
 use lines5to9::line5::scc;
 use lines5to9::line6::bra;
 use lines5to9::line6::bsr;
@@ -16,31 +16,31 @@ use linesbtof::linee::shift;
 use manual::Logic;
 use quick_bodies::flow::bcc;
 use quick_bodies::flow::jsr;
-use quick_bodies::flow::load_registers;
+use quick_bodies::flow::movem_load;
+use quick_bodies::flow::movem_store;
 use quick_bodies::flow::pea;
-use quick_bodies::flow::store_registers;
 use quick_bodies::logic::and_to_data;
 use quick_bodies::logic::bit_by_immediate;
 use quick_bodies::logic::bit_by_register;
 use quick_bodies::logic::eor_to_data;
-use quick_bodies::logic::multiply_longs;
+use quick_bodies::logic::mul_l;
 use quick_bodies::mac::Summed;
 use quick_bodies::mac::quick_mac;
-use quick_bodies::moves::clear_place;
+use quick_bodies::moves::clr;
 use quick_bodies::moves::lea;
-use quick_bodies::moves::move_address;
 use quick_bodies::moves::move_long;
+use quick_bodies::moves::movea;
 use quick_bodies::parts::part;
-use quick_bodies::sums::add_to_address;
 use quick_bodies::sums::add_to_data;
-use quick_bodies::sums::compare_address;
-use quick_bodies::sums::compare_data;
-use quick_bodies::sums::compare_immediate;
-use quick_bodies::sums::quick_data;
-use quick_bodies::sums::sub_to_address;
+use quick_bodies::sums::adda;
+use quick_bodies::sums::addq;
+use quick_bodies::sums::cmp;
+use quick_bodies::sums::cmpa;
+use quick_bodies::sums::cmpi;
 use quick_bodies::sums::sub_to_data;
+use quick_bodies::sums::suba;
 use quick_parts::inplace::Effect;
-use quick_parts::inplace::settled;
+use quick_parts::inplace::changed;
 use quick_parts::inplace::stored;
 ghost use mathlib.Core.Path.{_≡_};
 ghost use Prim.Native.Nat.{ℕ};
@@ -64,14 +64,14 @@ pub fn in_place(row: u8, g: &mut [u32; 16], pc: u32, sr: u16, mem: &mut [u8], op
     ensures { λ r. ⌜ ((other : ℕ) (e : Emac) → after r (now (g .exit)) (now (mem .exit)) ≡ agreed r (ofRow row (now (g .entry)) pc sr other e (mapped (now (mem .entry))) op) sr (now (g .entry)) (mapped (now (mem .entry)))) ⌝ }
 {
     match row {
-        rows::ANDI => settled(g, sr, logic_immediate(Logic::And, &*g, pc, sr, &*mem, op)),
-        rows::EORI => settled(g, sr, logic_immediate(Logic::Eor, &*g, pc, sr, &*mem, op)),
-        rows::SUBI => settled(g, sr, sum_immediate(false, &*g, pc, &*mem, op)),
-        rows::ADDI => settled(g, sr, sum_immediate(true, &*g, pc, &*mem, op)),
-        rows::CMPI_L => compare_immediate(g, pc, sr, &*mem, op),
+        rows::ANDI => changed(g, sr, logic_immediate(Logic::And, &*g, pc, sr, &*mem, op)),
+        rows::EORI => changed(g, sr, logic_immediate(Logic::Eor, &*g, pc, sr, &*mem, op)),
+        rows::SUBI => changed(g, sr, sum_immediate(false, &*g, pc, &*mem, op)),
+        rows::ADDI => changed(g, sr, sum_immediate(true, &*g, pc, &*mem, op)),
+        rows::CMPI_L => cmpi(g, pc, sr, &*mem, op),
         rows::BITOP_IMM => bit_by_immediate(g, pc, sr, &*mem, op),
         rows::BITOP_DN => bit_by_register(g, pc, sr, op),
-        rows::MOVEA_L => move_address(g, pc, sr, &*mem, op),
+        rows::MOVEA_L => movea(g, pc, sr, &*mem, op),
         rows::MOVE_L => move_long(g, pc, sr, mem, op),
         rows::MOVE_B
         | rows::MOVEA_W
@@ -81,41 +81,41 @@ pub fn in_place(row: u8, g: &mut [u32; 16], pc: u32, sr: u16, mem: &mut [u8], op
         | rows::MVZ
         | rows::MULU_W
         | rows::MULS_W => { part(row, g, pc, sr, mem, op) }
-        rows::RTS => settled(g, sr, rts(&*g, sr, &*mem)),
-        rows::EXTB => settled(g, sr, extb(&*g, pc, sr, op)),
+        rows::RTS => changed(g, sr, rts(&*g, sr, &*mem)),
+        rows::EXTB => changed(g, sr, extb(&*g, pc, sr, op)),
         rows::LINK => {
             let c = link(&*g, pc, sr, &*mem, op);
             stored(g, mem, sr, c)
         }
-        rows::UNLK => settled(g, sr, unlk(&*g, pc, sr, &*mem, op)),
-        rows::SWAP => settled(g, sr, swap(&*g, pc, sr, op)),
+        rows::UNLK => changed(g, sr, unlk(&*g, pc, sr, &*mem, op)),
+        rows::SWAP => changed(g, sr, swap(&*g, pc, sr, op)),
         rows::JSR => jsr(g, pc, sr, mem, op),
         rows::PEA => pea(g, pc, sr, mem, op),
-        rows::MOVEM_STORE => store_registers(&*g, pc, sr, mem, op),
-        rows::MOVEM_LOAD => load_registers(g, pc, sr, &*mem, op),
-        rows::MUL_L => multiply_longs(g, pc, sr, &*mem, op),
-        rows::CLR => clear_place(g, pc, sr, mem, op),
+        rows::MOVEM_STORE => movem_store(&*g, pc, sr, mem, op),
+        rows::MOVEM_LOAD => movem_load(g, pc, sr, &*mem, op),
+        rows::MUL_L => mul_l(g, pc, sr, &*mem, op),
+        rows::CLR => clr(g, pc, sr, mem, op),
         rows::LEA => lea(g, pc, sr, &*mem, op),
-        rows::ADDQ_AN_L => settled(g, sr, quick_address(&*g, pc, sr, op)),
-        rows::SCC => settled(g, sr, scc(&*g, pc, sr, op)),
-        rows::ADDQ => quick_data(g, pc, sr, op),
-        rows::BRA => settled(g, sr, bra(pc, sr, &*mem, op)),
+        rows::ADDQ_AN_L => changed(g, sr, addq_address(&*g, pc, sr, op)),
+        rows::SCC => changed(g, sr, scc(&*g, pc, sr, op)),
+        rows::ADDQ => addq(g, pc, sr, op),
+        rows::BRA => changed(g, sr, bra(pc, sr, &*mem, op)),
         rows::BSR => {
             let c = bsr(&*g, pc, sr, &*mem, op);
             stored(g, mem, sr, c)
         }
         rows::BCC => bcc(g, pc, sr, op),
-        rows::MOVEQ => settled(g, sr, moveq(pc, sr, op)),
-        rows::SUBA_L => sub_to_address(g, pc, sr, &*mem, op),
+        rows::MOVEQ => changed(g, sr, moveq(pc, sr, op)),
+        rows::SUBA_L => suba(g, pc, sr, &*mem, op),
         rows::SUB_DN => sub_to_data(g, pc, sr, &*mem, op),
-        rows::CMPA_L => compare_address(g, pc, sr, &*mem, op),
-        rows::CMP => compare_data(g, pc, sr, &*mem, op),
+        rows::CMPA_L => cmpa(g, pc, sr, &*mem, op),
+        rows::CMP => cmp(g, pc, sr, &*mem, op),
         rows::EOR => eor_to_data(g, pc, sr, op),
         rows::AND_DN => and_to_data(g, pc, sr, &*mem, op),
-        rows::ADDA_L => add_to_address(g, pc, sr, &*mem, op),
+        rows::ADDA_L => adda(g, pc, sr, &*mem, op),
         rows::ADD_DN => add_to_data(g, pc, sr, &*mem, op),
-        rows::ASX => settled(g, sr, shift(true, &*g, pc, sr, op)),
-        rows::LSX => settled(g, sr, shift(false, &*g, pc, sr, op)),
+        rows::ASX => changed(g, sr, shift(true, &*g, pc, sr, op)),
+        rows::LSX => changed(g, sr, shift(false, &*g, pc, sr, op)),
         _ => Effect::Left,
     }
 }

@@ -6,7 +6,7 @@ use Rattle.manual.specs.declared.Size.the-variants.{Long}
 use Rattle.manual.specs.declared.Write.{Write}
 use Rattle.manual.specs.declared.Emac.{Emac}
 use Rattle.manual.specs.declared.Action.{Action}
-use Rattle.manual.specs.declared.Action.the-variants.{Nothing, Store, StoreMany, LoadMany, Enter, Return, Status, Stop, PushStatus, Halt, Other, Accumulate, SetAcc, SetExt, SetMacsr, SetMask, CopyAcc, ClearAcc, Refuse}
+use Rattle.manual.specs.declared.Action.the-variants.{Nothing, Store, StoreMany, LoadMany, Enter, Return, Status, Stop, PushStatus, Halt, SetOther, Accumulate, SetAcc, SetExt, SetMacsr, SetMask, CopyAcc, ClearAcc, Refuse}
 use Rattle.manual.specs.declared.Change.{Change}
 use Rattle.manual.specs.Registers.{general, writeGeneral, written, coded}
 use Rattle.manual.specs.Flags.{keptCodes}
@@ -52,7 +52,7 @@ actedOn (Status v) f left e = left
 actedOn (Stop v) f left e = left
 actedOn (PushStatus v) f left e = left
 actedOn Halt f left e = left
-actedOn (Other v) f left e = left
+actedOn (SetOther v) f left e = left
 actedOn (Accumulate i scale sub x y) f left e = f (accumulate e i scale sub x y)
 actedOn (SetAcc i v) f left e = left
 actedOn (SetExt i v) f left e = left

@@ -8,7 +8,7 @@ use memory::load;
 use memory::many::load_many;
 use memory::many::store_many;
 use quick_parts::inplace::Effect;
-use quick_parts::inplace::settled;
+use quick_parts::inplace::changed;
 use quick_parts::inplace::stored;
 use word::conditions::condition;
 use word::flags::kept_codes;
@@ -20,7 +20,7 @@ ghost use mathlib.Core.Path.{_≡_};
 ghost use mathlib.Core.Bool.{true, false};
 ghost use Prim.Native.Nat.{ℕ, _+_, _*_, _/_, _%_};
 ghost use Rattle.manual.specs.Memory.{Memory, mapped, storageOf};
-ghost use Rattle.instructions.specs.Line4.{jsr as jsrOf, pea as peaOf, moveMany};
+ghost use Rattle.instructions.specs.Line4.{jsr as jsrOf, pea as peaOf, movem};
 ghost use Rattle.instructions.specs.Line6.{bcc as bccOf};
 ghost use Rattle.quick_parts.specs.Effects.{after, agreed};
 
@@ -37,9 +37,9 @@ pub fn bcc(g: &mut [u32; 16], pc: u32, sr: u16, op: u32) -> Effect
     }
     let at = plus(pc, 2);
     if condition(op / 256, sr) {
-        return settled(g, sr, jump(sr, plus(at, sign_extended(Size::Byte, low))));
+        return changed(g, sr, jump(sr, plus(at, sign_extended(Size::Byte, low))));
     }
-    settled(g, sr, jump(sr, plus(at, 0)))
+    changed(g, sr, jump(sr, plus(at, 0)))
 }
 
 // Line4.jsr, of (An) and of an absolute long
@@ -82,9 +82,9 @@ pub fn pea(g: &mut [u32; 16], pc: u32, sr: u16, mem: &mut [u8], op: u32) -> Effe
     stored(g, mem, sr, c)
 }
 
-// Line4.moveMany true
-pub fn store_registers(g: &[u32; 16], pc: u32, sr: u16, mem: &mut [u8], op: u32) -> Effect
-    ensures { λ r. ⌜ after r (now (g .entry)) (now (mem .exit)) ≡ agreed r (moveMany true (now (g .entry)) pc sr (mapped (now (mem .entry))) op) sr (now (g .entry)) (mapped (now (mem .entry))) ⌝ }
+// Line4.movem true
+pub fn movem_store(g: &[u32; 16], pc: u32, sr: u16, mem: &mut [u8], op: u32) -> Effect
+    ensures { λ r. ⌜ after r (now (g .entry)) (now (mem .exit)) ≡ agreed r (movem true (now (g .entry)) pc sr (mapped (now (mem .entry))) op) sr (now (g .entry)) (mapped (now (mem .entry))) ⌝ }
 {
     let at = plus(pc, 2);
     let mask = match load(&*mem, at, Size::Word) {
@@ -113,9 +113,9 @@ pub fn store_registers(g: &[u32; 16], pc: u32, sr: u16, mem: &mut [u8], op: u32)
     }
 }
 
-// Line4.moveMany false
-pub fn load_registers(g: &mut [u32; 16], pc: u32, sr: u16, mem: &[u8], op: u32) -> Effect
-    ensures { λ r. ⌜ after r (now (g .exit)) (now (mem .entry)) ≡ agreed r (moveMany false (now (g .entry)) pc sr (mapped (now (mem .entry))) op) sr (now (g .entry)) (mapped (now (mem .entry))) ⌝ }
+// Line4.movem false
+pub fn movem_load(g: &mut [u32; 16], pc: u32, sr: u16, mem: &[u8], op: u32) -> Effect
+    ensures { λ r. ⌜ after r (now (g .exit)) (now (mem .entry)) ≡ agreed r (movem false (now (g .entry)) pc sr (mapped (now (mem .entry))) op) sr (now (g .entry)) (mapped (now (mem .entry))) ⌝ }
 {
     let at = plus(pc, 2);
     let mask = match load(mem, at, Size::Word) {

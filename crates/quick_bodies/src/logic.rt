@@ -8,7 +8,7 @@ use manual::Size;
 use memory::load;
 use quick_parts::Reading;
 use quick_parts::inplace::Effect;
-use quick_parts::inplace::settled;
+use quick_parts::inplace::changed;
 use quick_parts::longs::long_move_codes;
 use quick_parts::operands::read_long;
 use word::bits::logic;
@@ -23,7 +23,7 @@ ghost use Prim.Native.Nat.{ℕ, _+_, _*_, _/_, _%_};
 ghost use Rattle.manual.specs.Memory.{Memory, mapped, storageOf};
 ghost use Rattle.manual.specs.declared.Logic.the-variants.{And, Eor};
 ghost use Rattle.instructions.specs.Line0.{bitByRegister, bitByImmediate};
-ghost use Rattle.instructions.specs.Line4.{multiply};
+ghost use Rattle.instructions.specs.Line4.{mulL};
 ghost use Rattle.instructions.specs.LineB.{logicToPlace};
 ghost use Rattle.instructions.specs.LineC.{logicToData};
 ghost use Rattle.quick_parts.specs.Effects.{after, agreed};
@@ -42,7 +42,7 @@ pub fn and_to_data(g: &mut [u32; 16], pc: u32, sr: u16, mem: &[u8], op: u32) -> 
     let r = logic(Logic::And, v, old);
     let codes = long_move_codes(r, sr);
     let whole = merged(Size::Long, old, r);
-    settled(g, sr, done(next, codes, first, write_data(op / 512, whole)))
+    changed(g, sr, done(next, codes, first, write_data(op / 512, whole)))
 }
 
 // LineB.logicToPlace Eor, of a long in Dn
@@ -60,16 +60,16 @@ pub fn eor_to_data(g: &mut [u32; 16], pc: u32, sr: u16, op: u32) -> Effect
     let r = logic(Logic::Eor, cut(Size::Long, old), data(&*g, op / 512));
     let codes = long_move_codes(r, sr);
     let whole = merged(Size::Long, old, r);
-    settled(
+    changed(
         g,
         sr,
         done(next, codes, no_write(), write_data(op % 8, whole)),
     )
 }
 
-// Line4.multiply
-pub fn multiply_longs(g: &mut [u32; 16], pc: u32, sr: u16, mem: &[u8], op: u32) -> Effect
-    ensures { λ r. ⌜ after r (now (g .exit)) (now (mem .entry)) ≡ agreed r (multiply (now (g .entry)) pc sr (mapped (now (mem .entry))) op) sr (now (g .entry)) (mapped (now (mem .entry))) ⌝ }
+// Line4.mulL
+pub fn mul_l(g: &mut [u32; 16], pc: u32, sr: u16, mem: &[u8], op: u32) -> Effect
+    ensures { λ r. ⌜ after r (now (g .exit)) (now (mem .entry)) ≡ agreed r (mulL (now (g .entry)) pc sr (mapped (now (mem .entry))) op) sr (now (g .entry)) (mapped (now (mem .entry))) ⌝ }
 {
     let at = plus(pc, 2);
     let w = match load(mem, at, Size::Word) {
@@ -81,7 +81,7 @@ pub fn multiply_longs(g: &mut [u32; 16], pc: u32, sr: u16, mem: &[u8], op: u32) 
     };
     let r = product(w, data(&*g, w / 0x1000), v);
     let codes = long_move_codes(r, sr);
-    settled(g, sr, done(next, codes, first, write_data(w / 0x1000, r)))
+    changed(g, sr, done(next, codes, first, write_data(w / 0x1000, r)))
 }
 
 // Line0.bitByRegister, of Dn
@@ -92,7 +92,7 @@ pub fn bit_by_register(g: &mut [u32; 16], pc: u32, sr: u16, op: u32) -> Effect
         return Effect::Left;
     }
     let n = data(&*g, op / 512);
-    settled(g, sr, bit_of_data(&*g, plus(pc, 2), sr, op, n))
+    changed(g, sr, bit_of_data(&*g, plus(pc, 2), sr, op, n))
 }
 
 // Line0.bitByImmediate, of Dn
@@ -106,5 +106,5 @@ pub fn bit_by_immediate(g: &mut [u32; 16], pc: u32, sr: u16, mem: &[u8], op: u32
         Got::Value(n) => n,
         Got::Fault(_) => return Effect::Left,
     };
-    settled(g, sr, bit_of_data(&*g, plus(pc, 4), sr, op, n))
+    changed(g, sr, bit_of_data(&*g, plus(pc, 4), sr, op, n))
 }

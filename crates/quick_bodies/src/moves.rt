@@ -7,7 +7,7 @@ use memory::load;
 use quick_parts::Reading;
 use quick_parts::Spot;
 use quick_parts::inplace::Effect;
-use quick_parts::inplace::settled;
+use quick_parts::inplace::changed;
 use quick_parts::inplace::stored;
 use quick_parts::longs::long_move_codes;
 use quick_parts::operands::read_long;
@@ -28,8 +28,8 @@ ghost use mathlib.Core.Path.{_≡_};
 ghost use Prim.Native.Nat.{_+_, _*_, _/_, _%_};
 ghost use Rattle.manual.specs.Memory.{mapped};
 ghost use Rattle.manual.specs.declared.Size.the-variants.{Long};
-ghost use Rattle.instructions.specs.Moves.{move as moveOf, moveAddress};
-ghost use Rattle.instructions.specs.Line4.{lea as leaOf, clear};
+ghost use Rattle.instructions.specs.Moves.{move as moveOf, movea as moveaOf};
+ghost use Rattle.instructions.specs.Line4.{lea as leaOf, clr as clrOf};
 ghost use Rattle.quick_parts.specs.Effects.{after, agreed};
 
 // Moves.move Long
@@ -42,7 +42,7 @@ pub fn move_long(g: &mut [u32; 16], pc: u32, sr: u16, mem: &mut [u8], op: u32) -
     let codes = long_move_codes(v, sr);
     if op / 64 % 8 == 0 {
         let whole = merged(Size::Long, data(&*g, op / 512), v);
-        return settled(g, sr, done(next, codes, first, write_data(op / 512, whole)));
+        return changed(g, sr, done(next, codes, first, write_data(op / 512, whole)));
     }
     let r = op / 512 % 8;
     let a = address_after(&*g, first, r);
@@ -53,16 +53,16 @@ pub fn move_long(g: &mut [u32; 16], pc: u32, sr: u16, mem: &mut [u8], op: u32) -
     stored(g, mem, sr, c)
 }
 
-// Moves.moveAddress Long
-pub fn move_address(g: &mut [u32; 16], pc: u32, sr: u16, mem: &[u8], op: u32) -> Effect
-    ensures { λ r. ⌜ after r (now (g .exit)) (now (mem .entry)) ≡ agreed r (moveAddress Long (now (g .entry)) pc sr (mapped (now (mem .entry))) op) sr (now (g .entry)) (mapped (now (mem .entry))) ⌝ }
+// Moves.movea Long
+pub fn movea(g: &mut [u32; 16], pc: u32, sr: u16, mem: &[u8], op: u32) -> Effect
+    ensures { λ r. ⌜ after r (now (g .exit)) (now (mem .entry)) ≡ agreed r (moveaOf Long (now (g .entry)) pc sr (mapped (now (mem .entry))) op) sr (now (g .entry)) (mapped (now (mem .entry))) ⌝ }
 {
     let Reading::Read(v, next, first) = read_long(&*g, mem, plus(pc, 2), op) else {
         return Effect::Left;
     };
     let codes = kept_codes(sr);
     let whole = sign_extended(Size::Long, v);
-    settled(
+    changed(
         g,
         sr,
         done(next, codes, first, write_address(op / 512, whole)),
@@ -83,7 +83,7 @@ pub fn lea(g: &mut [u32; 16], pc: u32, sr: u16, mem: &[u8], op: u32) -> Effect
     let codes = kept_codes(sr);
     if op / 8 % 8 == 5 {
         let a = plus(address(&*g, op % 8), offset);
-        return settled(
+        return changed(
             g,
             sr,
             done(next, codes, no_write(), write_address(op / 512, a)),
@@ -95,16 +95,16 @@ pub fn lea(g: &mut [u32; 16], pc: u32, sr: u16, mem: &[u8], op: u32) -> Effect
     if op % 8 != 0 {
         return Effect::Left;
     }
-    settled(
+    changed(
         g,
         sr,
         done(next, codes, no_write(), write_address(op / 512, offset)),
     )
 }
 
-// Line4.clear
-pub fn clear_place(g: &mut [u32; 16], pc: u32, sr: u16, mem: &mut [u8], op: u32) -> Effect
-    ensures { λ r. ⌜ after r (now (g .exit)) (now (mem .exit)) ≡ agreed r (clear (now (g .entry)) pc sr (mapped (now (mem .entry))) op) sr (now (g .entry)) (mapped (now (mem .entry))) ⌝ }
+// Line4.clr
+pub fn clr(g: &mut [u32; 16], pc: u32, sr: u16, mem: &mut [u8], op: u32) -> Effect
+    ensures { λ r. ⌜ after r (now (g .exit)) (now (mem .exit)) ≡ agreed r (clrOf (now (g .entry)) pc sr (mapped (now (mem .entry))) op) sr (now (g .entry)) (mapped (now (mem .entry))) ⌝ }
 {
     let z = size_of(op / 64);
     let at = plus(pc, 2);
@@ -112,7 +112,7 @@ pub fn clear_place(g: &mut [u32; 16], pc: u32, sr: u16, mem: &mut [u8], op: u32)
     if op / 8 % 8 == 0 {
         let next = plus(at, 0);
         let whole = merged(z, data(&*g, op % 8), 0);
-        return settled(
+        return changed(
             g,
             sr,
             done(next, codes, no_write(), write_data(op % 8, whole)),

@@ -8,7 +8,7 @@ use manual::Write;
 use quick_parts::Reading;
 use quick_parts::Spot;
 use quick_parts::inplace::Effect;
-use quick_parts::inplace::settled;
+use quick_parts::inplace::changed;
 use quick_parts::inplace::stored;
 use quick_parts::longs::long_move_codes;
 use quick_parts::operands::read;
@@ -31,10 +31,10 @@ ghost use Rattle.manual.specs.declared.Size.the-variants.{Word};
 ghost use Rattle.manual.specs.declared.Emac.{Emac};
 ghost use Rattle.manual.specs.Word.{plus as plusOf, sizeOf};
 ghost use Rattle.manual.specs.Address.{source};
-ghost use Rattle.instructions.specs.Moves.{move as moveOf, moveAddress};
-ghost use Rattle.instructions.specs.Line4.{test};
-ghost use Rattle.instructions.specs.Line7.{moveSigned, moveZero};
-ghost use Rattle.instructions.specs.LineC.{multiplyWords};
+ghost use Rattle.instructions.specs.Moves.{move as moveOf, movea as moveaOf};
+ghost use Rattle.instructions.specs.Line4.{tst as tstOf};
+ghost use Rattle.instructions.specs.Line7.{mvs as mvsOf, mvz as mvzOf};
+ghost use Rattle.instructions.specs.LineC.{mulW};
 ghost use Rattle.instructions.specs.Step.{ofRow};
 ghost use Rattle.quick_parts.specs.Near.{readAs};
 ghost use Rattle.quick_parts.specs.Effects.{after, agreed};
@@ -56,7 +56,7 @@ fn move_part(
     let codes = move_codes(z, v, sr);
     if op / 64 % 8 == 0 {
         let whole = merged(z, data(&*g, op / 512), v);
-        return settled(g, sr, done(next, codes, first, write_data(op / 512, whole)));
+        return changed(g, sr, done(next, codes, first, write_data(op / 512, whole)));
     }
     let r = op / 512 % 8;
     let a = address_after(&*g, first, r);
@@ -67,46 +67,46 @@ fn move_part(
     stored(g, mem, sr, c)
 }
 
-// Moves.moveAddress Word
-fn move_address(g: &mut [u32; 16], sr: u16, op: u32, v: u32, next: u32, first: Write) -> Effect
-    ensures { λ r. ⌜ ((at : ℕ) (m : Memory) → source (now (g .entry)) m (plusOf at 2) op Word ≡ readAs v next first → after r (now (g .exit)) (storageOf m) ≡ agreed r (moveAddress Word (now (g .entry)) at sr m op) sr (now (g .entry)) m) ⌝ }
+// Moves.movea Word
+fn movea(g: &mut [u32; 16], sr: u16, op: u32, v: u32, next: u32, first: Write) -> Effect
+    ensures { λ r. ⌜ ((at : ℕ) (m : Memory) → source (now (g .entry)) m (plusOf at 2) op Word ≡ readAs v next first → after r (now (g .exit)) (storageOf m) ≡ agreed r (moveaOf Word (now (g .entry)) at sr m op) sr (now (g .entry)) m) ⌝ }
 {
     let codes = kept_codes(sr);
     let whole = sign_extended(Size::Word, v);
-    settled(
+    changed(
         g,
         sr,
         done(next, codes, first, write_address(op / 512, whole)),
     )
 }
 
-// Line7.moveZero
-fn move_zero(g: &mut [u32; 16], sr: u16, op: u32, v: u32, next: u32, first: Write) -> Effect
-    ensures { λ r. ⌜ ((at : ℕ) (m : Memory) → source (now (g .entry)) m (plusOf at 2) op (sizeOf (op / 64 % 2)) ≡ readAs v next first → after r (now (g .exit)) (storageOf m) ≡ agreed r (moveZero (now (g .entry)) at sr m op) sr (now (g .entry)) m) ⌝ }
+// Line7.mvz
+fn mvz(g: &mut [u32; 16], sr: u16, op: u32, v: u32, next: u32, first: Write) -> Effect
+    ensures { λ r. ⌜ ((at : ℕ) (m : Memory) → source (now (g .entry)) m (plusOf at 2) op (sizeOf (op / 64 % 2)) ≡ readAs v next first → after r (now (g .exit)) (storageOf m) ≡ agreed r (mvzOf (now (g .entry)) at sr m op) sr (now (g .entry)) m) ⌝ }
 {
     let codes = long_move_codes(v, sr);
-    settled(g, sr, done(next, codes, first, write_data(op / 512, v)))
+    changed(g, sr, done(next, codes, first, write_data(op / 512, v)))
 }
 
-// Line7.moveSigned
-fn move_signed(g: &mut [u32; 16], sr: u16, op: u32, v: u32, next: u32, first: Write) -> Effect
-    ensures { λ r. ⌜ ((at : ℕ) (m : Memory) → source (now (g .entry)) m (plusOf at 2) op (sizeOf (op / 64 % 2)) ≡ readAs v next first → after r (now (g .exit)) (storageOf m) ≡ agreed r (moveSigned (now (g .entry)) at sr m op) sr (now (g .entry)) m) ⌝ }
+// Line7.mvs
+fn mvs(g: &mut [u32; 16], sr: u16, op: u32, v: u32, next: u32, first: Write) -> Effect
+    ensures { λ r. ⌜ ((at : ℕ) (m : Memory) → source (now (g .entry)) m (plusOf at 2) op (sizeOf (op / 64 % 2)) ≡ readAs v next first → after r (now (g .exit)) (storageOf m) ≡ agreed r (mvsOf (now (g .entry)) at sr m op) sr (now (g .entry)) m) ⌝ }
 {
     let whole = sign_extended(size_of(op / 64 % 2), v);
     let codes = long_move_codes(whole, sr);
-    settled(g, sr, done(next, codes, first, write_data(op / 512, whole)))
+    changed(g, sr, done(next, codes, first, write_data(op / 512, whole)))
 }
 
-// Line4.test
-fn test_part(g: &mut [u32; 16], sr: u16, op: u32, v: u32, next: u32, first: Write) -> Effect
-    ensures { λ r. ⌜ ((at : ℕ) (m : Memory) → source (now (g .entry)) m (plusOf at 2) op (sizeOf (op / 64)) ≡ readAs v next first → after r (now (g .exit)) (storageOf m) ≡ agreed r (test (now (g .entry)) at sr m op) sr (now (g .entry)) m) ⌝ }
+// Line4.tst
+fn tst(g: &mut [u32; 16], sr: u16, op: u32, v: u32, next: u32, first: Write) -> Effect
+    ensures { λ r. ⌜ ((at : ℕ) (m : Memory) → source (now (g .entry)) m (plusOf at 2) op (sizeOf (op / 64)) ≡ readAs v next first → after r (now (g .exit)) (storageOf m) ≡ agreed r (tstOf (now (g .entry)) at sr m op) sr (now (g .entry)) m) ⌝ }
 {
     let codes = move_codes(size_of(op / 64), v, sr);
-    settled(g, sr, done(next, codes, first, no_write()))
+    changed(g, sr, done(next, codes, first, no_write()))
 }
 
-// LineC.multiplyWords
-fn multiply_words(
+// LineC.mulW
+fn mul_w(
     signs: bool,
     g: &mut [u32; 16],
     sr: u16,
@@ -115,11 +115,11 @@ fn multiply_words(
     next: u32,
     first: Write,
 ) -> Effect
-    ensures { λ r. ⌜ ((at : ℕ) (m : Memory) → source (now (g .entry)) m (plusOf at 2) op Word ≡ readAs v next first → after r (now (g .exit)) (storageOf m) ≡ agreed r (multiplyWords signs (now (g .entry)) at sr m op) sr (now (g .entry)) m) ⌝ }
+    ensures { λ r. ⌜ ((at : ℕ) (m : Memory) → source (now (g .entry)) m (plusOf at 2) op Word ≡ readAs v next first → after r (now (g .exit)) (storageOf m) ≡ agreed r (mulW signs (now (g .entry)) at sr m op) sr (now (g .entry)) m) ⌝ }
 {
     let r = product(signs, data(&*g, op / 512), v);
     let codes = long_move_codes(r, sr);
-    settled(g, sr, done(next, codes, first, write_data(op / 512, r)))
+    changed(g, sr, done(next, codes, first, write_data(op / 512, r)))
 }
 
 fn part_of(row: u8, op: u32) -> Size
@@ -146,12 +146,12 @@ pub fn part(row: u8, g: &mut [u32; 16], pc: u32, sr: u16, mem: &mut [u8], op: u3
     match row {
         rows::MOVE_B => move_part(z, g, sr, mem, op, v, next, first),
         rows::MOVE_W => move_part(z, g, sr, mem, op, v, next, first),
-        rows::MOVEA_W => move_address(g, sr, op, v, next, first),
-        rows::TST => test_part(g, sr, op, v, next, first),
-        rows::MVS => move_signed(g, sr, op, v, next, first),
-        rows::MVZ => move_zero(g, sr, op, v, next, first),
-        rows::MULU_W => multiply_words(false, g, sr, op, v, next, first),
-        rows::MULS_W => multiply_words(true, g, sr, op, v, next, first),
+        rows::MOVEA_W => movea(g, sr, op, v, next, first),
+        rows::TST => tst(g, sr, op, v, next, first),
+        rows::MVS => mvs(g, sr, op, v, next, first),
+        rows::MVZ => mvz(g, sr, op, v, next, first),
+        rows::MULU_W => mul_w(false, g, sr, op, v, next, first),
+        rows::MULS_W => mul_w(true, g, sr, op, v, next, first),
         _ => Effect::Left,
     }
 }

@@ -6,7 +6,7 @@ use manual::Size;
 use memory::load;
 use quick_parts::Reading;
 use quick_parts::inplace::Effect;
-use quick_parts::inplace::settled;
+use quick_parts::inplace::changed;
 use quick_parts::longs::long_compare_codes;
 use quick_parts::longs::long_difference;
 use quick_parts::longs::long_difference_codes;
@@ -29,15 +29,15 @@ ghost use mathlib.Core.Bool.{true, false};
 ghost use Prim.Native.Nat.{ℕ, _+_, _*_, _/_, _%_};
 ghost use Rattle.manual.specs.Memory.{Memory, mapped, storageOf};
 ghost use Rattle.manual.specs.declared.Size.the-variants.{Long};
-ghost use Rattle.instructions.specs.Line0.{compareImmediate};
-ghost use Rattle.instructions.specs.Line5.{quick as quickOf};
-ghost use Rattle.instructions.specs.Line9D.{toData, toAddress};
-ghost use Rattle.instructions.specs.LineB.{compareData, compareAddress};
+ghost use Rattle.instructions.specs.Line0.{cmpi as cmpiOf};
+ghost use Rattle.instructions.specs.Line5.{addq as addqOf};
+ghost use Rattle.instructions.specs.Line9D.{addToData, adda as addaOf};
+ghost use Rattle.instructions.specs.LineB.{cmp as cmpOf, cmpa as cmpaOf};
 ghost use Rattle.quick_parts.specs.Effects.{after, agreed};
 
-// LineB.compareData, of a long
-pub fn compare_data(g: &mut [u32; 16], pc: u32, sr: u16, mem: &[u8], op: u32) -> Effect
-    ensures { λ r. ⌜ after r (now (g .exit)) (now (mem .entry)) ≡ agreed r (compareData (now (g .entry)) pc sr (mapped (now (mem .entry))) op) sr (now (g .entry)) (mapped (now (mem .entry))) ⌝ }
+// LineB.cmp, of a long
+pub fn cmp(g: &mut [u32; 16], pc: u32, sr: u16, mem: &[u8], op: u32) -> Effect
+    ensures { λ r. ⌜ after r (now (g .exit)) (now (mem .entry)) ≡ agreed r (cmpOf (now (g .entry)) pc sr (mapped (now (mem .entry))) op) sr (now (g .entry)) (mapped (now (mem .entry))) ⌝ }
 {
     if op / 64 % 4 != 2 {
         return Effect::Left;
@@ -47,24 +47,24 @@ pub fn compare_data(g: &mut [u32; 16], pc: u32, sr: u16, mem: &[u8], op: u32) ->
     };
     let old = data(&*g, op / 512);
     let codes = long_compare_codes(sr, v, old);
-    settled(g, sr, done(next, codes, first, no_write()))
+    changed(g, sr, done(next, codes, first, no_write()))
 }
 
-// LineB.compareAddress Long
-pub fn compare_address(g: &mut [u32; 16], pc: u32, sr: u16, mem: &[u8], op: u32) -> Effect
-    ensures { λ r. ⌜ after r (now (g .exit)) (now (mem .entry)) ≡ agreed r (compareAddress Long (now (g .entry)) pc sr (mapped (now (mem .entry))) op) sr (now (g .entry)) (mapped (now (mem .entry))) ⌝ }
+// LineB.cmpa Long
+pub fn cmpa(g: &mut [u32; 16], pc: u32, sr: u16, mem: &[u8], op: u32) -> Effect
+    ensures { λ r. ⌜ after r (now (g .exit)) (now (mem .entry)) ≡ agreed r (cmpaOf Long (now (g .entry)) pc sr (mapped (now (mem .entry))) op) sr (now (g .entry)) (mapped (now (mem .entry))) ⌝ }
 {
     let Reading::Read(v, next, first) = read_long(&*g, mem, plus(pc, 2), op) else {
         return Effect::Left;
     };
     let old = address_after(&*g, first, op / 512);
     let codes = long_compare_codes(sr, sign_extended(Size::Long, v), old);
-    settled(g, sr, done(next, codes, first, no_write()))
+    changed(g, sr, done(next, codes, first, no_write()))
 }
 
-// Line9D.toData true, of a long
+// Line9D.addToData true, of a long
 pub fn add_to_data(g: &mut [u32; 16], pc: u32, sr: u16, mem: &[u8], op: u32) -> Effect
-    ensures { λ r. ⌜ after r (now (g .exit)) (now (mem .entry)) ≡ agreed r (toData true (now (g .entry)) pc (mapped (now (mem .entry))) op) sr (now (g .entry)) (mapped (now (mem .entry))) ⌝ }
+    ensures { λ r. ⌜ after r (now (g .exit)) (now (mem .entry)) ≡ agreed r (addToData true (now (g .entry)) pc (mapped (now (mem .entry))) op) sr (now (g .entry)) (mapped (now (mem .entry))) ⌝ }
 {
     if op / 64 % 4 != 2 {
         return Effect::Left;
@@ -75,12 +75,12 @@ pub fn add_to_data(g: &mut [u32; 16], pc: u32, sr: u16, mem: &[u8], op: u32) -> 
     let old = data(&*g, op / 512);
     let codes = long_sum_codes(v, old);
     let whole = merged(Size::Long, old, long_sum(v, old));
-    settled(g, sr, done(next, codes, first, write_data(op / 512, whole)))
+    changed(g, sr, done(next, codes, first, write_data(op / 512, whole)))
 }
 
-// Line9D.toData false, of a long
+// Line9D.addToData false, of a long
 pub fn sub_to_data(g: &mut [u32; 16], pc: u32, sr: u16, mem: &[u8], op: u32) -> Effect
-    ensures { λ r. ⌜ after r (now (g .exit)) (now (mem .entry)) ≡ agreed r (toData false (now (g .entry)) pc (mapped (now (mem .entry))) op) sr (now (g .entry)) (mapped (now (mem .entry))) ⌝ }
+    ensures { λ r. ⌜ after r (now (g .exit)) (now (mem .entry)) ≡ agreed r (addToData false (now (g .entry)) pc (mapped (now (mem .entry))) op) sr (now (g .entry)) (mapped (now (mem .entry))) ⌝ }
 {
     if op / 64 % 4 != 2 {
         return Effect::Left;
@@ -91,12 +91,12 @@ pub fn sub_to_data(g: &mut [u32; 16], pc: u32, sr: u16, mem: &[u8], op: u32) -> 
     let old = data(&*g, op / 512);
     let codes = long_difference_codes(v, old);
     let whole = merged(Size::Long, old, long_difference(v, old));
-    settled(g, sr, done(next, codes, first, write_data(op / 512, whole)))
+    changed(g, sr, done(next, codes, first, write_data(op / 512, whole)))
 }
 
-// Line9D.toAddress true Long
-pub fn add_to_address(g: &mut [u32; 16], pc: u32, sr: u16, mem: &[u8], op: u32) -> Effect
-    ensures { λ r. ⌜ after r (now (g .exit)) (now (mem .entry)) ≡ agreed r (toAddress true Long (now (g .entry)) pc sr (mapped (now (mem .entry))) op) sr (now (g .entry)) (mapped (now (mem .entry))) ⌝ }
+// Line9D.adda true Long
+pub fn adda(g: &mut [u32; 16], pc: u32, sr: u16, mem: &[u8], op: u32) -> Effect
+    ensures { λ r. ⌜ after r (now (g .exit)) (now (mem .entry)) ≡ agreed r (addaOf true Long (now (g .entry)) pc sr (mapped (now (mem .entry))) op) sr (now (g .entry)) (mapped (now (mem .entry))) ⌝ }
 {
     let Reading::Read(v, next, first) = read_long(&*g, mem, plus(pc, 2), op) else {
         return Effect::Left;
@@ -104,16 +104,16 @@ pub fn add_to_address(g: &mut [u32; 16], pc: u32, sr: u16, mem: &[u8], op: u32) 
     let old = address_after(&*g, first, op / 512);
     let codes = kept_codes(sr);
     let whole = plus(old, sign_extended(Size::Long, v));
-    settled(
+    changed(
         g,
         sr,
         done(next, codes, first, write_address(op / 512, whole)),
     )
 }
 
-// Line9D.toAddress false Long
-pub fn sub_to_address(g: &mut [u32; 16], pc: u32, sr: u16, mem: &[u8], op: u32) -> Effect
-    ensures { λ r. ⌜ after r (now (g .exit)) (now (mem .entry)) ≡ agreed r (toAddress false Long (now (g .entry)) pc sr (mapped (now (mem .entry))) op) sr (now (g .entry)) (mapped (now (mem .entry))) ⌝ }
+// Line9D.adda false Long
+pub fn suba(g: &mut [u32; 16], pc: u32, sr: u16, mem: &[u8], op: u32) -> Effect
+    ensures { λ r. ⌜ after r (now (g .exit)) (now (mem .entry)) ≡ agreed r (addaOf false Long (now (g .entry)) pc sr (mapped (now (mem .entry))) op) sr (now (g .entry)) (mapped (now (mem .entry))) ⌝ }
 {
     let Reading::Read(v, next, first) = read_long(&*g, mem, plus(pc, 2), op) else {
         return Effect::Left;
@@ -121,16 +121,16 @@ pub fn sub_to_address(g: &mut [u32; 16], pc: u32, sr: u16, mem: &[u8], op: u32) 
     let old = address_after(&*g, first, op / 512);
     let codes = kept_codes(sr);
     let whole = minus(old, sign_extended(Size::Long, v));
-    settled(
+    changed(
         g,
         sr,
         done(next, codes, first, write_address(op / 512, whole)),
     )
 }
 
-// Line5.quick, of a long in Dn
-pub fn quick_data(g: &mut [u32; 16], pc: u32, sr: u16, op: u32) -> Effect
-    ensures { λ r. ⌜ ((m : Memory) → after r (now (g .exit)) (storageOf m) ≡ agreed r (quickOf (now (g .entry)) pc m op) sr (now (g .entry)) m) ⌝ }
+// Line5.addq, of a long in Dn
+pub fn addq(g: &mut [u32; 16], pc: u32, sr: u16, op: u32) -> Effect
+    ensures { λ r. ⌜ ((m : Memory) → after r (now (g .exit)) (storageOf m) ≡ agreed r (addqOf (now (g .entry)) pc m op) sr (now (g .entry)) m) ⌝ }
 {
     if op / 8 % 8 != 0 {
         return Effect::Left;
@@ -144,16 +144,16 @@ pub fn quick_data(g: &mut [u32; 16], pc: u32, sr: u16, op: u32) -> Effect
     if op / 256 % 2 == 0 {
         let codes = long_sum_codes(n, old);
         let whole = merged(Size::Long, old, long_sum(n, old));
-        return settled(g, sr, done(next, codes, no_write(), write_data(op, whole)));
+        return changed(g, sr, done(next, codes, no_write(), write_data(op, whole)));
     }
     let codes = long_difference_codes(n, old);
     let whole = merged(Size::Long, old, long_difference(n, old));
-    settled(g, sr, done(next, codes, no_write(), write_data(op, whole)))
+    changed(g, sr, done(next, codes, no_write(), write_data(op, whole)))
 }
 
-// Line0.compareImmediate Long
-pub fn compare_immediate(g: &mut [u32; 16], pc: u32, sr: u16, mem: &[u8], op: u32) -> Effect
-    ensures { λ r. ⌜ after r (now (g .exit)) (now (mem .entry)) ≡ agreed r (compareImmediate Long (now (g .entry)) pc sr (mapped (now (mem .entry))) op) sr (now (g .entry)) (mapped (now (mem .entry))) ⌝ }
+// Line0.cmpi Long
+pub fn cmpi(g: &mut [u32; 16], pc: u32, sr: u16, mem: &[u8], op: u32) -> Effect
+    ensures { λ r. ⌜ after r (now (g .exit)) (now (mem .entry)) ≡ agreed r (cmpiOf Long (now (g .entry)) pc sr (mapped (now (mem .entry))) op) sr (now (g .entry)) (mapped (now (mem .entry))) ⌝ }
 {
     let at = plus(pc, 2);
     let v = match load(mem, at, Size::Long) {
@@ -164,5 +164,5 @@ pub fn compare_immediate(g: &mut [u32; 16], pc: u32, sr: u16, mem: &[u8], op: u3
     let next = plus(at, 4);
     let codes = long_compare_codes(sr, cut(Size::Long, v), old);
     let none = no_write();
-    settled(g, sr, done(next, codes, none, none))
+    changed(g, sr, done(next, codes, none, none))
 }

@@ -7,7 +7,7 @@ use mathlib.Core.List.{List}
 use Rattle.manual.specs.declared.Cpu.{Cpu}
 use Rattle.manual.specs.declared.Emac.{Emac}
 use Rattle.manual.specs.declared.Action.{Action}
-use Rattle.manual.specs.declared.Action.the-variants.{Nothing, Store, StoreMany, LoadMany, Enter, Return, Status, Stop, PushStatus, Halt, Other, Accumulate, SetAcc, SetExt, SetMacsr, SetMask, CopyAcc, ClearAcc, Refuse}
+use Rattle.manual.specs.declared.Action.the-variants.{Nothing, Store, StoreMany, LoadMany, Enter, Return, Status, Stop, PushStatus, Halt, SetOther, Accumulate, SetAcc, SetExt, SetMacsr, SetMask, CopyAcc, ClearAcc, Refuse}
 use Rattle.manual.specs.declared.Change.{Change}
 use Rattle.manual.specs.declared.Stored.{Stored}
 use Rattle.manual.specs.declared.Stored.the-variants.{Done as Taken, Fault as NotTaken}
@@ -71,7 +71,7 @@ module _ (g : List ℕ) (pc sr : ℕ) (e : Emac) (rest : Cpu) (m : Memory) (c : 
   by-action (Stop v) h = absurd (clash pc′ sr′ g m g′ m′ h)
   by-action (PushStatus v) h = absurd (clash pc′ sr′ g m g′ m′ h)
   by-action Halt h = absurd (clash pc′ sr′ g m g′ m′ h)
-  by-action (Other v) h = absurd (clash pc′ sr′ g m g′ m′ h)
+  by-action (SetOther v) h = absurd (clash pc′ sr′ g m g′ m′ h)
   by-action (Accumulate i scale sub x y) h = absurd (clash pc′ sr′ g m g′ m′ h)
   by-action (SetAcc i v) h = absurd (clash pc′ sr′ g m g′ m′ h)
   by-action (SetExt i v) h = absurd (clash pc′ sr′ g m g′ m′ h)

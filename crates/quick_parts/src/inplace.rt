@@ -17,7 +17,7 @@ pub enum Effect {
 }
 
 // A change with nothing more to do, whatever the memory.
-pub fn settled(g: &mut [u32; 16], sr: u16, c: Change) -> Effect
+pub fn changed(g: &mut [u32; 16], sr: u16, c: Change) -> Effect
     ensures { λ e. ⌜ ((m : Memory) → after e (now (g .exit)) (storageOf m) ≡ agreed e c sr (now (g .entry)) m) ⌝ }
 {
     let first = c.first;
@@ -55,7 +55,7 @@ pub fn carried_out(g: &mut [u32; 16], mem: &mut [u8], sr: u16, c: Change) -> Eff
 {
     let action = c.action;
     match action {
-        Action::Nothing => settled(g, sr, c),
+        Action::Nothing => changed(g, sr, c),
         Action::Store(_, _, _) => stored(g, mem, sr, c),
         _ => Effect::Left,
     }

@@ -14,7 +14,7 @@ ghost use mathlib.Core.Path.{_≡_};
 ghost use Prim.Native.Nat.{_+_, _*_, _/_, _%_, _^_};
 ghost use Rattle.manual.specs.Admitted.{status as statusOf, emacAdmitted, admitted as admittedOf};
 ghost use Rattle.manual.specs.Lent.{lent, lentRefusal, firstRefusal};
-ghost use Rattle.manual.specs.Exceptions.{setSr, handling as handlingOf};
+ghost use Rattle.manual.specs.Exceptions.{setSr, handlerSr as handlerSrOf};
 
 // Memory has at most 16,777,216 bytes.
 const LONGEST: usize = 0x100_0000;
@@ -87,8 +87,8 @@ pub fn with_status(cpu: Cpu, v: u32) -> Cpu
 }
 
 // The status register in a handler: S set, T clear, the mask by the level.
-pub fn handling(level: Level, sr: u16) -> u16
-    ensures { λ r. ⌜ r ≡ handlingOf level sr ⌝ }
+pub fn handler_sr(level: Level, sr: u16) -> u16
+    ensures { λ r. ⌜ r ≡ handlerSrOf level sr ⌝ }
 {
     match level {
         Level::Kept => 0x2000 + sr / 0x1000 % 2 * 0x1000 + sr % 0x1000,

@@ -30,7 +30,6 @@ digit-at-most (suc zero) k h = omega arith
 digit-at-most (suc (suc d)) k h = omega arith
 
 pub bit-number : (n v : ℕ) → bit (bitOf n v) ≡ v / 2 ^ n % 2
-unfolding bitOf
 bit-number n v = go (eqb (v / 2 ^ n % 2) 1) refl
   where
     go : (t : Bool) → eqb (v / 2 ^ n % 2) 1 ≡ t → bit t ≡ v / 2 ^ n % 2

@@ -1,4 +1,5 @@
 // The condition codes, and the sums and differences that set them.
+use super::bits::with_bit;
 use super::word::cut;
 use super::word::half;
 use super::word::numbers;
@@ -153,11 +154,5 @@ pub fn extended_codes(sr: u16, r: Sum) -> u32
 pub fn test_codes(sr: u16, clear: bool) -> u32
     ensures { λ c. ⌜ c ≡ testCodes sr clear ⌝ }
 {
-    codes(
-        sr / 16 % 2 == 1,
-        sr / 8 % 2 == 1,
-        clear,
-        sr / 2 % 2 == 1,
-        sr % 2 == 1,
-    )
+    with_bit(2, clear, kept_codes(sr))
 }

@@ -16,23 +16,23 @@ use Rattle.quick.proofs.in_place.Tie as tie
 
 returns : tie.Need-returns
 unfolding ofRow line0 placeIn
-returns c = λ other e. rw (c .before .before .before .before .before .match .keys1, ← c .before .logic-immediate .ensures) (c .settled .ensures _)
+returns c = λ other e. rw (c .before .before .before .before .before .match .keys1, ← c .before .logic-immediate .ensures) (c .changed .ensures _)
 
 returns-2 : tie.Need-returns-2
 unfolding ofRow line0 placeIn
-returns-2 c = λ other e. rw (c .before .before .before .before .before .match .keys2, ← c .before .logic-immediate2 .ensures) (c .settled2 .ensures _)
+returns-2 c = λ other e. rw (c .before .before .before .before .before .match .keys2, ← c .before .logic-immediate2 .ensures) (c .changed2 .ensures _)
 
 returns-3 : tie.Need-returns-3
 unfolding ofRow line0 placeIn
-returns-3 c = λ other e. rw (c .before .before .before .before .before .match .keys3, ← c .before .sum-immediate .ensures) (c .settled3 .ensures _)
+returns-3 c = λ other e. rw (c .before .before .before .before .before .match .keys3, ← c .before .sum-immediate .ensures) (c .changed3 .ensures _)
 
 returns-4 : tie.Need-returns-4
 unfolding ofRow line0 placeIn
-returns-4 c = λ other e. rw (c .before .before .before .before .before .match .keys4, ← c .before .sum-immediate2 .ensures) (c .settled4 .ensures _)
+returns-4 c = λ other e. rw (c .before .before .before .before .before .match .keys4, ← c .before .sum-immediate2 .ensures) (c .changed4 .ensures _)
 
 returns-5 : tie.Need-returns-5
 unfolding ofRow line0 placeIn
-returns-5 c = λ other e. rw (c .before .before .before .match .keys5) (c .compare-immediate .ensures)
+returns-5 c = λ other e. rw (c .before .before .before .match .keys5) (c .cmpi .ensures)
 
 returns-6 : tie.Need-returns-6
 unfolding ofRow line0 placeIn
@@ -44,7 +44,7 @@ returns-7 c = λ other e. rw (c .before .before .match .keys7) (c .bit-by-regist
 
 returns-8 : tie.Need-returns-8
 unfolding ofRow line2 placeIn
-returns-8 c = λ other e. rw (c .before .before .before .match .keys8) (c .move-address .ensures)
+returns-8 c = λ other e. rw (c .before .before .before .match .keys8) (c .movea .ensures)
 
 returns-9 : tie.Need-returns-9
 unfolding ofRow line2 placeIn
@@ -52,11 +52,11 @@ returns-9 c = λ other e. rw (c .before .before .before .before .before .match .
 
 returns-10 : tie.Need-returns-10
 unfolding ofRow line4 placeIn
-returns-10 c = λ other e. rw (c .before .before .before .before .before .match .keys11, ← c .before .rts .ensures) (c .settled5 .ensures _)
+returns-10 c = λ other e. rw (c .before .before .before .before .before .match .keys11, ← c .before .rts .ensures) (c .changed5 .ensures _)
 
 returns-11 : tie.Need-returns-11
 unfolding ofRow line4 placeIn
-returns-11 c = λ other e. rw (c .before .before .before .before .match .keys12, ← c .before .extb .ensures) (c .settled6 .ensures _)
+returns-11 c = λ other e. rw (c .before .before .before .before .match .keys12, ← c .before .extb .ensures) (c .changed6 .ensures _)
 
 returns-12 : tie.Need-returns-12
 unfolding ofRow line4 placeIn
@@ -64,11 +64,11 @@ returns-12 c = λ other e. rw (c .before .before .before .before .before .before
 
 returns-13 : tie.Need-returns-13
 unfolding ofRow line4 placeIn
-returns-13 c = λ other e. rw (c .before .before .before .before .before .match .keys14, ← c .before .unlk .ensures) (c .settled7 .ensures _)
+returns-13 c = λ other e. rw (c .before .before .before .before .before .match .keys14, ← c .before .unlk .ensures) (c .changed7 .ensures _)
 
 returns-14 : tie.Need-returns-14
 unfolding ofRow line4 placeIn
-returns-14 c = λ other e. rw (c .before .before .before .before .match .keys15, ← c .before .swap .ensures) (c .settled8 .ensures _)
+returns-14 c = λ other e. rw (c .before .before .before .before .match .keys15, ← c .before .swap .ensures) (c .changed8 .ensures _)
 
 returns-15 : tie.Need-returns-15
 unfolding ofRow line4 placeIn
@@ -80,19 +80,19 @@ returns-16 c = λ other e. rw (c .before .before .before .before .before .match 
 
 returns-17 : tie.Need-returns-17
 unfolding ofRow line4 placeIn
-returns-17 c = λ other e. rw (c .before .before .before .before .before .match .keys18) (c .before .before .store-registers .ensures)
+returns-17 c = λ other e. rw (c .before .before .before .before .before .match .keys18) (c .before .before .movem-store .ensures)
 
 returns-18 : tie.Need-returns-18
 unfolding ofRow line4 placeIn
-returns-18 c = λ other e. rw (c .before .before .before .match .keys19) (c .load-registers .ensures)
+returns-18 c = λ other e. rw (c .before .before .before .match .keys19) (c .movem-load .ensures)
 
 returns-19 : tie.Need-returns-19
 unfolding ofRow line4 placeIn
-returns-19 c = λ other e. rw (c .before .before .before .match .keys20) (c .multiply-longs .ensures)
+returns-19 c = λ other e. rw (c .before .before .before .match .keys20) (c .mul-l .ensures)
 
 returns-20 : tie.Need-returns-20
 unfolding ofRow line4 placeIn
-returns-20 c = λ other e. rw (c .before .before .before .before .before .match .keys21) (c .before .before .clear-place .ensures)
+returns-20 c = λ other e. rw (c .before .before .before .before .before .match .keys21) (c .before .before .clr .ensures)
 
 returns-21 : tie.Need-returns-21
 unfolding ofRow line4 placeIn
@@ -100,19 +100,19 @@ returns-21 c = λ other e. rw (c .before .before .before .match .keys22) (c .lea
 
 returns-22 : tie.Need-returns-22
 unfolding ofRow line5 placeIn
-returns-22 c = λ other e. rw (c .before .before .before .before .match .keys23, ← c .before .quick-address .ensures) (c .settled9 .ensures _)
+returns-22 c = λ other e. rw (c .before .before .before .before .match .keys23, ← c .before .addq-address .ensures) (c .changed9 .ensures _)
 
 returns-23 : tie.Need-returns-23
 unfolding ofRow line5 placeIn
-returns-23 c = λ other e. rw (c .before .before .before .before .match .keys24, ← c .before .scc .ensures) (c .settled10 .ensures _)
+returns-23 c = λ other e. rw (c .before .before .before .before .match .keys24, ← c .before .scc .ensures) (c .changed10 .ensures _)
 
 returns-24 : tie.Need-returns-24
 unfolding ofRow line5 placeIn
-returns-24 c = λ other e. rw (c .before .before .match .keys25) (c .quick-data .ensures _)
+returns-24 c = λ other e. rw (c .before .before .match .keys25) (c .addq .ensures _)
 
 returns-25 : tie.Need-returns-25
 unfolding ofRow line6 placeIn
-returns-25 c = λ other e. rw (c .before .before .before .before .match .keys26, ← c .before .bra .ensures) (c .settled11 .ensures _)
+returns-25 c = λ other e. rw (c .before .before .before .before .match .keys26, ← c .before .bra .ensures) (c .changed11 .ensures _)
 
 returns-26 : tie.Need-returns-26
 unfolding ofRow line6 placeIn
@@ -124,11 +124,11 @@ returns-27 c = λ other e. rw (c .before .before .match .keys28) (c .bcc .ensure
 
 returns-28 : tie.Need-returns-28
 unfolding ofRow line7 placeIn
-returns-28 c = λ other e. rw (c .before .before .before .match .keys29, ← c .before .moveq .ensures) (c .settled12 .ensures _)
+returns-28 c = λ other e. rw (c .before .before .before .match .keys29, ← c .before .moveq .ensures) (c .changed12 .ensures _)
 
 returns-29 : tie.Need-returns-29
 unfolding ofRow sums placeIn
-returns-29 c = λ other e. rw (c .before .before .before .match .keys30) (c .sub-to-address .ensures)
+returns-29 c = λ other e. rw (c .before .before .before .match .keys30) (c .suba .ensures)
 
 returns-30 : tie.Need-returns-30
 unfolding ofRow sums placeIn
@@ -136,11 +136,11 @@ returns-30 c = λ other e. rw (c .before .before .before .match .keys31) (c .sub
 
 returns-31 : tie.Need-returns-31
 unfolding ofRow lineB placeIn
-returns-31 c = λ other e. rw (c .before .before .before .match .keys32) (c .compare-address .ensures)
+returns-31 c = λ other e. rw (c .before .before .before .match .keys32) (c .cmpa .ensures)
 
 returns-32 : tie.Need-returns-32
 unfolding ofRow lineB placeIn
-returns-32 c = λ other e. rw (c .before .before .before .match .keys33) (c .compare-data .ensures)
+returns-32 c = λ other e. rw (c .before .before .before .match .keys33) (c .cmp .ensures)
 
 returns-33 : tie.Need-returns-33
 unfolding ofRow lineB placeIn
@@ -152,7 +152,7 @@ returns-34 c = λ other e. rw (c .before .before .before .match .keys35) (c .and
 
 returns-35 : tie.Need-returns-35
 unfolding ofRow sums placeIn
-returns-35 c = λ other e. rw (c .before .before .before .match .keys36) (c .add-to-address .ensures)
+returns-35 c = λ other e. rw (c .before .before .before .match .keys36) (c .adda .ensures)
 
 returns-36 : tie.Need-returns-36
 unfolding ofRow sums placeIn
@@ -160,11 +160,11 @@ returns-36 c = λ other e. rw (c .before .before .before .match .keys37) (c .add
 
 returns-37 : tie.Need-returns-37
 unfolding ofRow lineE placeIn
-returns-37 c = λ other e. rw (c .before .before .before .before .match .keys38, ← c .before .shift .ensures) (c .settled13 .ensures _)
+returns-37 c = λ other e. rw (c .before .before .before .before .match .keys38, ← c .before .shift .ensures) (c .changed13 .ensures _)
 
 returns-38 : tie.Need-returns-38
 unfolding ofRow lineE placeIn
-returns-38 c = λ other e. rw (c .before .before .before .before .match .keys39, ← c .before .shift2 .ensures) (c .settled14 .ensures _)
+returns-38 c = λ other e. rw (c .before .before .before .before .match .keys39, ← c .before .shift2 .ensures) (c .changed14 .ensures _)
 
 pub in-place-spec : {M : Type 1} → statement M
 in-place-spec =

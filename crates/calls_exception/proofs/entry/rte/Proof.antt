@@ -11,7 +11,7 @@ returns c = rw (← c .before .before .before .first-refusal .ensures, ← c .be
 
 returns-2 : tie.Need-returns-2
 unfolding rteOf
-returns-2 c = rw (← c .before .before .before .first-refusal .ensures, ← c .before .before .is-done .ensures, not-false (c .before .before .is-done .result) (c .before .if1 .left), ← c .left .ensures)
+returns-2 c = rw (← c .before .before .before .first-refusal .ensures, ← c .before .before .is-done .ensures, not-false (c .before .before .is-done .result) (c .before .if1 .left), ← c .returned .ensures)
 
 pub rte-spec : {M : Type 1} → statement M
 rte-spec =

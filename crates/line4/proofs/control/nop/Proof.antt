@@ -1,9 +1,9 @@
-use Rattle.instructions.specs.Line4.{nothing as nothingOf}
+use Rattle.instructions.specs.Line4.{nop as nopOf}
 use Rattle.line4.proofs.control.nop.Statement.{statement}
 use Rattle.line4.proofs.control.nop.Tie as tie
 
 returns : tie.Need-returns
-unfolding nothingOf
+unfolding nopOf
 returns c = rw (← c .before .plus .ensures, ← c .jump .ensures)
 
 pub nop-spec : {M : Type 1} → statement M

@@ -1,9 +1,9 @@
-use Rattle.instructions.specs.Line4.{clear as clearOf}
+use Rattle.instructions.specs.Line4.{clr as clrOf}
 use Rattle.line4.proofs.single.clr.Statement.{statement}
 use Rattle.line4.proofs.single.clr.Tie as tie
 
 returns : tie.Need-returns
-unfolding clearOf
+unfolding clrOf
 returns c =
     let c1 = c .before in let c2 = c1 .before in let c3 = c2 .before in let c4 = c3 .before in
     rw (← c4 .size-of .ensures, ← c3 .plus .ensures, ← c2 .destination .ensures, ← c1 .move-codes .ensures, ← c .put-to .ensures)

@@ -1,9 +1,9 @@
-use Rattle.instructions.specs.Line4.{extendToLong as extendToLongOf}
+use Rattle.instructions.specs.Line4.{extL as extLOf}
 use Rattle.line4.proofs.single.ext_l.Statement.{statement}
 use Rattle.line4.proofs.single.ext_l.Tie as tie
 
 returns : tie.Need-returns
-unfolding extendToLongOf
+unfolding extLOf
 returns c = rw (← c .before .before .«data» .ensures, ← c .before .sign-extended .ensures, ← c .replaced .ensures)
 
 pub ext-l-spec : {M : Type 1} → statement M

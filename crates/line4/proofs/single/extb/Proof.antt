@@ -1,9 +1,9 @@
-use Rattle.instructions.specs.Line4.{extendByte as extendByteOf}
+use Rattle.instructions.specs.Line4.{extb as extbOf}
 use Rattle.line4.proofs.single.extb.Statement.{statement}
 use Rattle.line4.proofs.single.extb.Tie as tie
 
 returns : tie.Need-returns
-unfolding extendByteOf
+unfolding extbOf
 returns c = rw (← c .before .before .«data» .ensures, ← c .before .sign-extended .ensures, ← c .replaced .ensures)
 
 pub extb-spec : {M : Type 1} → statement M

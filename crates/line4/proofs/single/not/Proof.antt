@@ -1,10 +1,10 @@
-use Rattle.instructions.specs.Line4.{complement as complementOf}
+use Rattle.instructions.specs.Line4.{not as notOf}
 use borrow.Author.Needs.{needs}
 use Rattle.line4.proofs.single.not.Statement.{statement}
 use Rattle.line4.proofs.single.not.Tie as tie
 
 returns : tie.Need-returns
-unfolding complementOf
+unfolding notOf
 returns c = rw (← c .before .«data» .ensures, ← c .replaced .ensures)
 
 pub not-spec : {M : Type 1} → statement M

@@ -1,9 +1,9 @@
-use Rattle.instructions.specs.Line4.{saturate as saturateOf}
+use Rattle.instructions.specs.Line4.{sats as satsOf}
 use Rattle.line4.proofs.single.sats.Statement.{statement}
 use Rattle.line4.proofs.single.sats.Tie as tie
 
 returns : tie.Need-returns
-unfolding saturateOf
+unfolding satsOf
 returns c = rw (← c .before .before .«data» .ensures, ← c .before .saturated .ensures, ← c .replaced .ensures)
 
 pub sats-spec : {M : Type 1} → statement M

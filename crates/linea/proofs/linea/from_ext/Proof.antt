@@ -3,7 +3,7 @@ use Rattle.linea.proofs.linea.from_ext.Statement.{statement}
 use Rattle.linea.proofs.linea.from_ext.Tie as tie
 
 returns : tie.Need-returns
-returns c = rw (← c .before .before .fractional .ensures, ← c .before .read-ext .ensures) (c .to-general .ensures)
+returns c = rw (← c .before .before .fractional .ensures, ← c .before .read-ext .ensures) (c .move-to-general .ensures)
 
 pub from-ext-spec : {M : Type 1} → statement M
 from-ext-spec =

@@ -13,7 +13,7 @@ unfolding line5Of placeIn
 returns-9 c =
     let row : ℕ = c .before .before .before .args .row in
     let past : 8 ≤ placeIn (firstRow 5) row = other-row (firstRow 5) 8 rowCount row (omega arith) (c .before .match .rest) in
-    rw List·getD-eq-default (c .quick .ensures)
+    rw List·getD-eq-default (c .addq .ensures)
 
 pub instruction-spec : {M : Type 1} → statement M
 unfolding line5Of placeIn
@@ -29,12 +29,12 @@ instruction-spec =
     (λ c κs. tt)
     (λ c κs. tt)
     (λ c κs. tt)
-    (λ c. rw (c .before .match .keys1, ← c .skip .ensures))
-    (λ c. rw (c .before .match .keys2, ← c .skip2 .ensures))
-    (λ c. rw (c .before .match .keys3, ← c .skip3 .ensures))
-    (λ c. rw (c .before .match .keys4, ← c .quick-address .ensures))
-    (λ c. rw (c .before .match .keys5, ← c .quick-address2 .ensures))
-    (λ c. rw (c .before .match .keys6, ← c .quick-address3 .ensures))
+    (λ c. rw (c .before .match .keys1, ← c .tpf .ensures))
+    (λ c. rw (c .before .match .keys2, ← c .tpf2 .ensures))
+    (λ c. rw (c .before .match .keys3, ← c .tpf3 .ensures))
+    (λ c. rw (c .before .match .keys4, ← c .addq-address .ensures))
+    (λ c. rw (c .before .match .keys5, ← c .addq-address2 .ensures))
+    (λ c. rw (c .before .match .keys6, ← c .addq-address3 .ensures))
     (λ c. rw (c .before .match .keys7, ← c .scc .ensures))
     (λ c. rw (c .before .match .keys8, ← c .illegal .ensures))
     returns-9)

@@ -9,7 +9,7 @@ returns-10 : tie.Need-returns-10
 unfolding sumsOf
 returns-10 c =
     let p : 9 ≤ c .before .before .place-in .result = past 9 _ (c .before .match .rest) in
-    rw (← c .before .before .place-in .ensures, List·getD-eq-default) (c .to-memory .ensures)
+    rw (← c .before .before .place-in .ensures, List·getD-eq-default) (c .add-to-memory .ensures)
 
 pub by-row-spec : {M : Type 1} → statement M
 unfolding sumsOf
@@ -27,13 +27,13 @@ by-row-spec =
     (λ c κs. tt)
     (λ c κs. tt)
     (λ c κs. tt)
-    (λ c. rw (← c .before .before .place-in .ensures, c .before .match .keys1, ← c .with-x .ensures))
-    (λ c. rw (← c .before .before .place-in .ensures, c .before .match .keys2, ← c .with-x2 .ensures))
-    (λ c. rw (← c .before .before .place-in .ensures, c .before .match .keys3, ← c .with-x3 .ensures))
+    (λ c. rw (← c .before .before .place-in .ensures, c .before .match .keys1, ← c .addx .ensures))
+    (λ c. rw (← c .before .before .place-in .ensures, c .before .match .keys2, ← c .addx2 .ensures))
+    (λ c. rw (← c .before .before .place-in .ensures, c .before .match .keys3, ← c .addx3 .ensures))
     (λ c. rw (← c .before .before .place-in .ensures, c .before .match .keys4, ← c .illegal .ensures))
     (λ c. rw (← c .before .before .place-in .ensures, c .before .match .keys5, ← c .illegal2 .ensures))
     (λ c. rw (← c .before .before .place-in .ensures, c .before .match .keys6, ← c .illegal3 .ensures))
-    (λ c. rw (← c .before .before .place-in .ensures, c .before .match .keys7, ← c .to-address .ensures))
-    (λ c. rw (← c .before .before .place-in .ensures, c .before .match .keys8, ← c .to-address2 .ensures))
-    (λ c. rw (← c .before .before .place-in .ensures, c .before .match .keys9, ← c .to-data .ensures))
+    (λ c. rw (← c .before .before .place-in .ensures, c .before .match .keys7, ← c .adda .ensures))
+    (λ c. rw (← c .before .before .place-in .ensures, c .before .match .keys8, ← c .adda2 .ensures))
+    (λ c. rw (← c .before .before .place-in .ensures, c .before .match .keys9, ← c .add-to-data .ensures))
     returns-10)

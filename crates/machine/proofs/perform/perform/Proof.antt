@@ -57,7 +57,7 @@ returns-9 : tie.Need-returns-9
 unfolding performOf
 returns-9 c =
     let c1 = c .before in let c2 = c1 .before in let c3 = c2 .before in let c4 = c3 .before in let c5 = c4 .before in
-    rw (← c5 .applied .ensures, c2 .enum-told5 .given .1, ← c .left .ensures)
+    rw (← c5 .applied .ensures, c2 .enum-told5 .given .1, ← c .returned .ensures)
 
 returns-10 : tie.Need-returns-10
 unfolding performOf

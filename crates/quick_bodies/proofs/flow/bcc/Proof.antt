@@ -10,13 +10,13 @@ returns-3 : tie.Need-returns-3
 unfolding bccOf displacementOf displacementBytesOf
 returns-3 c = λ m.
     let c1 = c .before in let c2 = c1 .before in let c3 = c2 .before in let c4 = c3 .before in let c5 = c4 .before in let c6 = c5 .before in let c7 = c6 .before in let c8 = c7 .before in let c9 = c8 .before in
-    rw (ne-eqb _ _ (c9 .if1 .left), ne-eqb _ _ (c8 .if2 .left), ← c7 .plus .ensures, ← c6 .condition .ensures, c5 .if3 .taken, ← c3 .sign-extended .ensures, ← c2 .plus2 .ensures, ← c1 .jump .ensures) (c .settled .ensures _)
+    rw (ne-eqb _ _ (c9 .if1 .left), ne-eqb _ _ (c8 .if2 .left), ← c7 .plus .ensures, ← c6 .condition .ensures, c5 .if3 .taken, ← c3 .sign-extended .ensures, ← c2 .plus2 .ensures, ← c1 .jump .ensures) (c .changed .ensures _)
 
 returns-4 : tie.Need-returns-4
 unfolding bccOf displacementOf displacementBytesOf
 returns-4 c = λ m.
     let c1 = c .before in let c2 = c1 .before in let c3 = c2 .before in let c4 = c3 .before in let c5 = c4 .before in let c6 = c5 .before in let c7 = c6 .before in let c8 = c7 .before in
-    rw (ne-eqb _ _ (c8 .if1 .left), ne-eqb _ _ (c7 .if2 .left), ← c6 .plus .ensures, ← c5 .condition .ensures, c4 .if3 .left, ← c2 .plus3 .ensures, ← c1 .jump2 .ensures) (c .settled2 .ensures _)
+    rw (ne-eqb _ _ (c8 .if1 .left), ne-eqb _ _ (c7 .if2 .left), ← c6 .plus .ensures, ← c5 .condition .ensures, c4 .if3 .left, ← c2 .plus3 .ensures, ← c1 .jump2 .ensures) (c .changed2 .ensures _)
 
 pub bcc-spec : {M : Type 1} → statement M
 bcc-spec =

@@ -9,7 +9,7 @@ returns-2 : tie.Need-returns-2
 unfolding bitByRegisterOf bitOperationOf
 returns-2 c = λ m.
     let c1 = c .before in let c2 = c1 .before in let c3 = c2 .before in let c4 = c3 .before in let c5 = c4 .before in let c6 = c5 .before in let c7 = c6 .before in
-    rw (eq-eqb _ _ (c7 .if1 .left), ← c5 .«data» .ensures, ← c2 .plus .ensures, ← c1 .bit-of-data .ensures) (c .settled .ensures _)
+    rw (eq-eqb _ _ (c7 .if1 .left), ← c5 .«data» .ensures, ← c2 .plus .ensures, ← c1 .bit-of-data .ensures) (c .changed .ensures _)
 
 pub bit-by-register-spec : {M : Type 1} → statement M
 bit-by-register-spec =

@@ -12,7 +12,7 @@ returns-2 : tie.Need-returns-2
 unfolding moveOf
 returns-2 c =
     let c1 = c .before in let c2 = c1 .before in let c3 = c2 .before in let c4 = c3 .before in let c5 = c4 .before in let c6 = c5 .before in let c7 = c6 .before in let c8 = c7 .before in let c9 = c8 .before in let c10 = c9 .before in let c11 = c10 .before in let c12 = c11 .before in let c13 = c12 .before in
-    rw (← c13 .plus .ensures, readOf _ _ _ _ _ (c10 .v .given .1) (c12 .read-long .ensures), ← c8 .long-move-codes .ensures, eq-eqb _ _ (c7 .if1 .taken), ← c5 .«data» .ensures, ← c4 .merged .ensures, ← c2 .write-data .ensures, ← c1 .done .ensures) (c .settled .ensures _)
+    rw (← c13 .plus .ensures, readOf _ _ _ _ _ (c10 .v .given .1) (c12 .read-long .ensures), ← c8 .long-move-codes .ensures, eq-eqb _ _ (c7 .if1 .taken), ← c5 .«data» .ensures, ← c4 .merged .ensures, ← c2 .write-data .ensures, ← c1 .done .ensures) (c .changed .ensures _)
 
 returns-4 : tie.Need-returns-4
 unfolding moveOf moveToOf

@@ -11,7 +11,7 @@ returns : tie.Need-returns
 unfolding moveOf
 returns c = λ at h.
     let c1 = c .before in let c2 = c1 .before in let c3 = c2 .before in let c4 = c3 .before in let c5 = c4 .before in let c6 = c5 .before in let c7 = c6 .before in let c8 = c7 .before in
-    rw (h, ← c8 .move-codes .ensures, eq-eqb _ _ (c7 .if1 .taken), ← c5 .«data» .ensures, ← c4 .merged .ensures, ← c2 .write-data .ensures, ← c1 .done .ensures) (c .settled .ensures _)
+    rw (h, ← c8 .move-codes .ensures, eq-eqb _ _ (c7 .if1 .taken), ← c5 .«data» .ensures, ← c4 .merged .ensures, ← c2 .write-data .ensures, ← c1 .done .ensures) (c .changed .ensures _)
 
 returns-3 : tie.Need-returns-3
 unfolding moveOf moveToOf

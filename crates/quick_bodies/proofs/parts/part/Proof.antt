@@ -31,42 +31,42 @@ unfolding ofRow line3 placeIn partOf rowOf
 returns-4 c = λ other e.
     let c1 = c .before in let c2 = c1 .before in let c3 = c2 .before in let c4 = c3 .before in let c5 = c4 .before in let c6 = c5 .before in let c7 = c6 .before in let c8 = c7 .before in let c9 = c8 .before in let c10 = c9 .before in
     let h = rw (c7 .plus .ensures, c10 .part-of .ensures, c2 .match2 .keys3) at (readOf _ _ _ _ _ (c4 .v .given .1) (c6 .read .ensures)) in
-    rw (c2 .match2 .keys3) (c .move-address .ensures _ _ h)
+    rw (c2 .match2 .keys3) (c .movea .ensures _ _ h)
 
 returns-5 : tie.Need-returns-5
 unfolding ofRow line4 placeIn partOf rowOf
 returns-5 c = λ other e.
     let c1 = c .before in let c2 = c1 .before in let c3 = c2 .before in let c4 = c3 .before in let c5 = c4 .before in let c6 = c5 .before in let c7 = c6 .before in let c8 = c7 .before in let c9 = c8 .before in let c10 = c9 .before in
     let h = rw (c7 .plus .ensures, c10 .part-of .ensures, c2 .match2 .keys4) at (readOf _ _ _ _ _ (c4 .v .given .1) (c6 .read .ensures)) in
-    rw (c2 .match2 .keys4) (c .test-part .ensures _ _ h)
+    rw (c2 .match2 .keys4) (c .tst .ensures _ _ h)
 
 returns-6 : tie.Need-returns-6
 unfolding ofRow line7 placeIn partOf rowOf
 returns-6 c = λ other e.
     let c1 = c .before in let c2 = c1 .before in let c3 = c2 .before in let c4 = c3 .before in let c5 = c4 .before in let c6 = c5 .before in let c7 = c6 .before in let c8 = c7 .before in let c9 = c8 .before in let c10 = c9 .before in
     let h = rw (c7 .plus .ensures, c10 .part-of .ensures, c2 .match2 .keys5) at (readOf _ _ _ _ _ (c4 .v .given .1) (c6 .read .ensures)) in
-    rw (c2 .match2 .keys5) (c .move-signed .ensures _ _ h)
+    rw (c2 .match2 .keys5) (c .mvs .ensures _ _ h)
 
 returns-7 : tie.Need-returns-7
 unfolding ofRow line7 placeIn partOf rowOf
 returns-7 c = λ other e.
     let c1 = c .before in let c2 = c1 .before in let c3 = c2 .before in let c4 = c3 .before in let c5 = c4 .before in let c6 = c5 .before in let c7 = c6 .before in let c8 = c7 .before in let c9 = c8 .before in let c10 = c9 .before in
     let h = rw (c7 .plus .ensures, c10 .part-of .ensures, c2 .match2 .keys6) at (readOf _ _ _ _ _ (c4 .v .given .1) (c6 .read .ensures)) in
-    rw (c2 .match2 .keys6) (c .move-zero .ensures _ _ h)
+    rw (c2 .match2 .keys6) (c .mvz .ensures _ _ h)
 
 returns-8 : tie.Need-returns-8
 unfolding ofRow lineC placeIn partOf rowOf
 returns-8 c = λ other e.
     let c1 = c .before in let c2 = c1 .before in let c3 = c2 .before in let c4 = c3 .before in let c5 = c4 .before in let c6 = c5 .before in let c7 = c6 .before in let c8 = c7 .before in let c9 = c8 .before in let c10 = c9 .before in
     let h = rw (c7 .plus .ensures, c10 .part-of .ensures, c2 .match2 .keys7) at (readOf _ _ _ _ _ (c4 .v .given .1) (c6 .read .ensures)) in
-    rw (c2 .match2 .keys7) (c .multiply-words .ensures _ _ h)
+    rw (c2 .match2 .keys7) (c .mul-w .ensures _ _ h)
 
 returns-9 : tie.Need-returns-9
 unfolding ofRow lineC placeIn partOf rowOf
 returns-9 c = λ other e.
     let c1 = c .before in let c2 = c1 .before in let c3 = c2 .before in let c4 = c3 .before in let c5 = c4 .before in let c6 = c5 .before in let c7 = c6 .before in let c8 = c7 .before in let c9 = c8 .before in let c10 = c9 .before in
     let h = rw (c7 .plus .ensures, c10 .part-of .ensures, c2 .match2 .keys8) at (readOf _ _ _ _ _ (c4 .v .given .1) (c6 .read .ensures)) in
-    rw (c2 .match2 .keys8) (c .multiply-words2 .ensures _ _ h)
+    rw (c2 .match2 .keys8) (c .mul-w2 .ensures _ _ h)
 
 pub part-spec : {M : Type 1} → statement M
 part-spec =

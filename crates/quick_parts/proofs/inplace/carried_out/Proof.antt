@@ -3,7 +3,7 @@ use Rattle.quick_parts.proofs.inplace.carried_out.Statement.{statement}
 use Rattle.quick_parts.proofs.inplace.carried_out.Tie as tie
 
 returns : tie.Need-returns
-returns c = c .settled .ensures _
+returns c = c .changed .ensures _
 
 pub carried-out-spec : {M : Type 1} → statement M
 carried-out-spec =

@@ -1,11 +1,9 @@
 use mathlib.Core.Path.{refl}
-use Rattle.manual.specs.Bits.{bitOf}
 use borrow.Author.Needs.{needs}
 use Rattle.word.proofs.bits.bit_of.Statement.{statement}
 use Rattle.word.proofs.bits.bit_of.Tie as tie
 
 returns : tie.Need-returns
-unfolding bitOf
 returns c = refl
 
 pub bit-of-spec : {M : Type 1} → statement M

@@ -1,5 +1,6 @@
 use mathlib.Core.Path.{_≡_}
 use Prim.Native.Nat.{_%_}
+use native.Mathlib.Nat.{div-one}
 use native.Mathlib.Omega.{arith}
 use Rattle.word.specs.TestLaws.{past}
 use Rattle.manual.specs.Conditions.{condition}
@@ -28,10 +29,10 @@ condition-spec =
     (λ c κs. search needs)
     (λ c. rw (c .match .keys1))
     (λ c. rw (c .match .keys2))
-    (λ c. rw (c .before .match .keys3, ← c .both .ensures))
-    (λ c. rw (c .before .match .keys4, ← c .either .ensures))
-    (λ c. rw (c .match .keys5))
-    (λ c. rw (c .match .keys6))
+    (λ c. rw (c .before .match .keys3, div-one, ← c .both .ensures))
+    (λ c. rw (c .before .match .keys4, div-one, ← c .either .ensures))
+    (λ c. rw (c .match .keys5, div-one))
+    (λ c. rw (c .match .keys6, div-one))
     (λ c. rw (c .match .keys7))
     (λ c. rw (c .match .keys8))
     (λ c. rw (c .match .keys9))
