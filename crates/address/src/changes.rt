@@ -151,7 +151,7 @@ pub fn put(
     z: Size,
     v: u32,
 ) -> Change
-    ensures { λ e. ⌜ e ≡ putOf (now (g .entry)) next codes first second p z v ⌝ }
+    ensures { λ e. ⌜ e ≡ putOf (now (g .entry)) z v p (doneOf next codes first second) ⌝ }
 {
     match p {
         Place::D(r) => done(next, codes, first, write_data(r, merged(z, data(g, r), v))),

@@ -80,7 +80,7 @@ fn scaled(x: u32, scale: u32) -> u32
 fn index(g: &[u32; 16], w: u32) -> u32
     ensures { λ r. ⌜ r ≡ indexOf (now (g .entry)) w ⌝ }
 {
-    let r = general(g, w / 0x1000);
+    let r = general(g, w / 0x1000 % 16);
     if w / 0x800 % 2 == 1 {
         scaled(r, w / 0x200)
     } else {

@@ -7,7 +7,7 @@ use lib.Dec.{ltb}
 use Rattle.manual.specs.declared.Cpu.{Cpu}
 use Rattle.manual.specs.declared.Emac.{Emac}
 use Rattle.manual.specs.declared.Answer.{Answer}
-use Rattle.manual.specs.Emac.{has, setMacsr}
+use Rattle.manual.specs.Emac.{fractional, setMacsr}
 use Rattle.manual.specs.Admitted.{emacAdmitted, admitted}
 use Rattle.manual.specs.EmacCalls.{doneWith, accChanged, accSetCall, setAccPhysCall, setMacsrCall}
 use Rattle.state.specs.AdmittedLaws.{admitted-emac, emac-admitted}
@@ -33,7 +33,7 @@ module _ (s : Cpu) (h : admitted s ≡ true) where
   set-acc-phys-kept i acc ext a b =
       let e : emacAdmitted (s .emac) ≡ true = admitted-emac s h in
       changed i _
-      (with-acc-kept (s .emac) e i (s .emac .macsr) _ (macsr-small (s .emac) e) (pattern-below (has (s .emac .macsr) 5) acc ext a b))
+      (with-acc-kept (s .emac) e i (s .emac .macsr) _ (macsr-small (s .emac) e) (pattern-below (fractional (s .emac .macsr)) acc ext a b))
 
   pub set-macsr-call-kept : (v : ℕ) → admitted (setMacsrCall s v .cpu) ≡ true
   unfolding setMacsrCall

@@ -27,10 +27,11 @@ use Rattle.manual.specs.declared.Level.the-variants.{Kept}
 use Rattle.manual.specs.declared.Action.{Action}
 use Rattle.manual.specs.declared.Action.the-variants.{Nothing, Store, StoreMany, LoadMany, Enter, Return, Status, Stop, PushStatus, Halt, SetOther, Accumulate, SetAcc, SetExt, SetMacsr, SetMask, CopyAcc, ClearAcc, Refuse}
 use Rattle.manual.specs.declared.Change.{Change}
-use Rattle.manual.specs.Word.{bytes, plus, minus, sizeOf, signExtended}
+use Rattle.manual.specs.Word.{bytes, plus, minus, signExtended}
+use Rattle.manual.specs.Fields.{bits, line, upper, upperMode, mode, register, sizeField, byteOrWord, lowByte, wordOperands}
 use Rattle.manual.specs.Registers.{addressOf, applied}
 use Rattle.manual.specs.Memory.{Memory, access, taken, numberAt}
-use Rattle.manual.specs.Address.{operand, extension, locate, control}
+use Rattle.manual.specs.Address.{operand, operandOf, extension, locate, control}
 use Rattle.manual.specs.Differences.{anySize, vectorPlace}
 use Rattle.manual.specs.Exceptions.{setSr, handlerSr, pcPlace, framePlace}
 use Rattle.instructions.specs.Rows.{firstRow, rowOf, placeIn}
@@ -74,7 +75,7 @@ words pc n = cond (eqb n 0) none (wanted pc n ∷ [])
 
 -- the operand that bits 5 to 0 of a word name
 abbrev pub named : ℕ → Operand
-named op = operand (op / 8 % 8) (op % 8)
+named op = operandOf op
 
 -- the bytes of a place: those at its address, where it is in memory
 abbrev pub own : Place → Size → List Wanted
@@ -123,22 +124,23 @@ module _ (g : List ℕ) (at : ℕ) (m : Memory) (op : ℕ) where
       words (plus at 2) (extension Immediate Long) ∷  -- CMPI_L
       (wordAt (plus at 2) ++ operandAt g m (plus at 4) op Byte) ∷  -- BITOP_IMM
       source Byte ∷  -- BITOP_DN
+      none ∷  -- ILL_0
       [])
-      (placeIn (firstRow 0) row) none  -- ILL_0
+      (placeIn (firstRow 0) row) none
 
   -- MOVE: the source, and the extension words of the destination, which lie after the source's
   abbrev pub moveReads : Size → List Wanted
   moveReads z =
-      source z ++ words (plus (plus at 2) (extension (named op) z)) (extension (operand (op / 64 % 8) (op / 512 % 8)) z)
+      source z ++ words (plus (plus at 2) (extension (named op) z)) (extension (operand (upperMode op) (upper op)) z)
 
-  unfoldable pub reads1 : ℕ → List Wanted
-  reads1 row = getD (source Byte ∷ []) (placeIn (firstRow 1) row) (moveReads Byte)  -- MOVEA_B, MOVE_B
-
-  unfoldable pub reads2 : ℕ → List Wanted
-  reads2 row = getD (source Long ∷ []) (placeIn (firstRow 2) row) (moveReads Long)  -- MOVEA_L, MOVE_L
-
-  unfoldable pub reads3 : ℕ → List Wanted
-  reads3 row = getD (source Word ∷ []) (placeIn (firstRow 3) row) (moveReads Word)  -- MOVEA_W, MOVE_W
+  -- lines 1, 2 and 3, from their first row on
+  unfoldable pub readsMoves : ℕ → Size → ℕ → List Wanted
+  readsMoves first z row =
+      getD
+      (source z ∷  -- MOVEA_B, MOVEA_L, MOVEA_W
+      moveReads z ∷  -- MOVE_B, MOVE_L, MOVE_W
+      [])
+      (placeIn first row) none
 
   -- STLDSR: the new status register, where the second word is 0x46FC
   abbrev pub statusReads : List Wanted
@@ -146,7 +148,7 @@ module _ (g : List ℕ) (at : ℕ) (m : Memory) (op : ℕ) where
 
   -- MOVEM: the registers' word, and the displacement in mode 5
   abbrev pub manyReads : List Wanted
-  manyReads = wordAt (plus at 2) ++ cond (eqb (op / 8 % 8) 5) (wordAt (plus at 4)) none
+  manyReads = wordAt (plus at 2) ++ cond (eqb (mode op) 5) (wordAt (plus at 4)) none
 
   unfoldable pub reads4 : ℕ → List Wanted
   reads4 row =
@@ -163,7 +165,7 @@ module _ (g : List ℕ) (at : ℕ) (m : Memory) (op : ℕ) where
       statusReads ∷  -- STLDSR
       none ∷  -- EXTB
       wordAt (plus at 2) ∷  -- LINK
-      longAt (addressOf g op) ∷  -- UNLK
+      longAt (addressOf g (register op)) ∷  -- UNLK
       none ∷  -- TO_USP
       none ∷  -- FROM_USP
       none ∷  -- FROM_CCR
@@ -187,11 +189,12 @@ module _ (g : List ℕ) (at : ℕ) (m : Memory) (op : ℕ) where
       (wordAt (plus at 2) ++ operandAt g m (plus at 4) op Long) ∷  -- MUL_L
       (wordAt (plus at 2) ++ operandAt g m (plus at 4) op Long) ∷  -- DIV_L
       source Byte ∷  -- TAS
-      extensionOf (plus at 2) op (sizeOf (op / 64)) ∷  -- CLR
-      source (sizeOf (op / 64)) ∷  -- TST
+      extensionOf (plus at 2) op (sizeField op) ∷  -- CLR
+      source (sizeField op) ∷  -- TST
       controlAt g m (plus at 2) op ∷  -- LEA
+      none ∷  -- ILL_4
       [])
-      (placeIn (firstRow 4) row) none  -- ILL_4
+      (placeIn (firstRow 4) row) none
 
   unfoldable pub reads5 : ℕ → List Wanted
   reads5 row =
@@ -204,25 +207,28 @@ module _ (g : List ℕ) (at : ℕ) (m : Memory) (op : ℕ) where
       none ∷  -- ADDQ_AN_L
       none ∷  -- SCC
       none ∷  -- ILL_50C0
+      source (anySize op) ∷  -- ADDQ
       [])
-      (placeIn (firstRow 5) row) (source (anySize op))  -- ADDQ
+      (placeIn (firstRow 5) row) none
 
   -- a branch: the displacement, where it is not in the word
   unfoldable pub reads6 : ℕ → List Wanted
   reads6 row =
       getD
-      (words (plus at 2) (displacementBytes (op % 256)) ∷  -- BRA
-      words (plus at 2) (displacementBytes (op % 256)) ∷  -- BSR
+      (words (plus at 2) (displacementBytes (lowByte op)) ∷  -- BRA
+      words (plus at 2) (displacementBytes (lowByte op)) ∷  -- BSR
+      words (plus at 2) (displacementBytes (lowByte op)) ∷  -- BCC
       [])
-      (placeIn (firstRow 6) row) (words (plus at 2) (displacementBytes (op % 256)))  -- BCC
+      (placeIn (firstRow 6) row) none
 
   unfoldable pub reads7 : ℕ → List Wanted
   reads7 row =
       getD
-      (source (sizeOf (op / 64 % 2)) ∷  -- MVS
-      source (sizeOf (op / 64 % 2)) ∷  -- MVZ
+      (source (byteOrWord op) ∷  -- MVS
+      source (byteOrWord op) ∷  -- MVZ
+      none ∷  -- MOVEQ
       [])
-      (placeIn (firstRow 7) row) none  -- MOVEQ
+      (placeIn (firstRow 7) row) none
 
   -- lines 9 and D, from their first row on
   unfoldable pub reads9D : ℕ → ℕ → List Wanted
@@ -237,22 +243,23 @@ module _ (g : List ℕ) (at : ℕ) (m : Memory) (op : ℕ) where
       source Word ∷  -- SUBA_W, ADDA_W
       source Long ∷  -- SUBA_L, ADDA_L
       source (anySize op) ∷  -- SUB_DN, ADD_DN
+      source (anySize op) ∷  -- SUB_MEM, ADD_MEM
       [])
-      (placeIn first row) (source (anySize op))  -- SUB_MEM, ADD_MEM
+      (placeIn first row) none
 
   -- MAC and MSAC: the second word w; and the long of the parallel load, in modes 2 to 5 where w says a long operand. Mode 5 has its
   -- displacement before it
   abbrev pub loadReads : ℕ → ℕ → List Wanted
   loadReads mask w =
-      cond (eqb (op / 8 % 8) 5)
-      (wordAt (plus at 4) ++ longAt (loadAddress mask w (plus (addressOf g op) (signExtended Word (numberAt m (plus at 4) Word)))))
-      (longAt (loadAddress mask w (cond (eqb (op / 8 % 8) 4) (minus (addressOf g op) 4) (addressOf g op))))
+      cond (eqb (mode op) 5)
+      (wordAt (plus at 4) ++ longAt (loadAddress mask w (plus (addressOf g (register op)) (signExtended Word (numberAt m (plus at 4) Word)))))
+      (longAt (loadAddress mask w (cond (eqb (mode op) 4) (minus (addressOf g (register op)) 4) (addressOf g (register op)))))
 
   abbrev pub macReads : ℕ → List Wanted
   macReads mask =
       let w : ℕ = numberAt m (plus at 2) Word in
       wordAt (plus at 2)
-      ++ cond (eqb (op / 16 % 4) 0) none (cond (ltb 5 (op / 8 % 8)) none (cond (eqb (w / 0x800 % 2) 0) none (loadReads mask w)))
+      ++ cond (eqb (bits 5 4 op) 0) none (cond (ltb 5 (mode op)) none (cond (wordOperands w) none (loadReads mask w)))
 
   unfoldable pub readsA : ℕ → ℕ → List Wanted
   readsA mask row =
@@ -269,17 +276,19 @@ module _ (g : List ℕ) (at : ℕ) (m : Memory) (op : ℕ) where
       source Long ∷  -- WRITE_ACC
       extensionOf (plus at 2) op Long ∷  -- MOV3Q
       macReads mask ∷  -- MAC
+      source Long ∷  -- LINEA
       [])
-      (placeIn (firstRow 0xA) row) (source Long)  -- LINEA
+      (placeIn (firstRow 0xA) row) none
 
   unfoldable pub readsB : ℕ → List Wanted
   readsB row =
       getD
       (source Word ∷  -- CMPA_W
       source Long ∷  -- CMPA_L
-      source (sizeOf (op / 64)) ∷  -- CMP
+      source (sizeField op) ∷  -- CMP
+      source (anySize op) ∷  -- EOR
       [])
-      (placeIn (firstRow 0xB) row) (source (anySize op))  -- EOR
+      (placeIn (firstRow 0xB) row) none
 
   unfoldable pub readsC : ℕ → List Wanted
   readsC row =
@@ -287,17 +296,19 @@ module _ (g : List ℕ) (at : ℕ) (m : Memory) (op : ℕ) where
       (source Word ∷  -- MULU_W
       source Word ∷  -- MULS_W
       source (anySize op) ∷  -- AND_DN
+      source (anySize op) ∷  -- AND_MEM
       [])
-      (placeIn (firstRow 0xC) row) (source (anySize op))  -- AND_MEM
+      (placeIn (firstRow 0xC) row) none
 
   unfoldable pub readsF : ℕ → List Wanted
   readsF row =
       getD
       (controlAt g m (plus at 2) op ∷  -- WDEBUG
       none ∷  -- CACHE
-      extensionOf (plus at 2) op (sizeOf (op / 64)) ∷  -- WDDATA
+      extensionOf (plus at 2) op (sizeField op) ∷  -- WDDATA
+      none ∷  -- LINEF
       [])
-      (placeIn (firstRow 0xF) row) none  -- LINEF
+      (placeIn (firstRow 0xF) row) none
 
   -- the line is the top four bits; a word of line 8 and a shift read nothing. mask is the EMAC's
   unfoldable pub reads : ℕ → List Wanted
@@ -305,9 +316,9 @@ module _ (g : List ℕ) (at : ℕ) (m : Memory) (op : ℕ) where
       let row : ℕ = rowOf op in
       getD
       (reads0 row ∷
-      reads1 row ∷
-      reads2 row ∷
-      reads3 row ∷
+      readsMoves (firstRow 1) Byte row ∷
+      readsMoves (firstRow 2) Long row ∷
+      readsMoves (firstRow 3) Word row ∷
       reads4 row ∷
       reads5 row ∷
       reads6 row ∷
@@ -319,8 +330,9 @@ module _ (g : List ℕ) (at : ℕ) (m : Memory) (op : ℕ) where
       readsC row ∷
       reads9D (firstRow 0xD) row ∷
       none ∷
+      readsF row ∷
       [])
-      (op / 0x1000 % 16) (readsF row)
+      (line op) none
 
 -- ---- what an instruction leaves to be done
 

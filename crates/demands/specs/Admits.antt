@@ -103,7 +103,7 @@ module _ (given s : Cpu) (m : Memory) (k : admitted given ≡ true) (h : admitte
   act-admitted Halt = stopped-admitted true s h
   act-admitted (SetOther v) = other-admitted v s h
   act-admitted (Accumulate i scale sub x y) = emac-admitted _ s (emac.accumulate-kept (s .emac) (admitted-emac s h) i scale sub x y) h
-  act-admitted (SetAcc i v) = emac-admitted _ s (emac.move-to-kept (s .emac) (admitted-emac s h) i v) h
+  act-admitted (SetAcc i v) = emac-admitted _ s (emac.set-acc-kept (s .emac) (admitted-emac s h) i v) h
   act-admitted (SetExt i v) = emac-admitted _ s (emac.set-ext-kept (s .emac) (admitted-emac s h) i v) h
   act-admitted (SetMacsr v) = emac-admitted _ s (emac.set-macsr-kept (s .emac) (admitted-emac s h) v) h
   act-admitted (SetMask v) = emac-admitted _ s (emac.set-mask-kept (s .emac) (admitted-emac s h) v) h

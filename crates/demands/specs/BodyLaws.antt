@@ -26,12 +26,14 @@ use Rattle.manual.specs.declared.Operand.{Operand}
 use Rattle.manual.specs.declared.Operand.the-variants.{Immediate}
 use Rattle.manual.specs.declared.Action.the-variants.{Nothing, ClearAcc}
 use Rattle.manual.specs.declared.Change.{Change}
-use Rattle.manual.specs.Word.{plus, sizeOf, signExtended}
+use Rattle.manual.specs.Word.{plus, signExtended}
+use Rattle.manual.specs.Bits.{bitOf}
+use Rattle.manual.specs.Fields.{bits, upper, upperMode, mode, register, sizeField, byteOrWord, bitOperator, lowByte, accField, extField}
 use Rattle.manual.specs.Registers.{dataOf, addressOf}
 use Rattle.manual.specs.Memory.{Memory, storageOf, access, firstFault, found, load, numberAt}
-use Rattle.manual.specs.Address.{operand, extension, source, locate, value, control, destination}
+use Rattle.manual.specs.Address.{operand, extension, source, locate, value, control, destination, destinationOf}
 use Rattle.manual.specs.Differences.{anySize}
-use Rattle.manual.specs.Emac.{has, readExt}
+use Rattle.manual.specs.Emac.{fractional, readExt}
 use Rattle.manual.specs.Exceptions.{supervisor}
 use Rattle.manual.specs.Change.{done, store, acting, enterAfter, enter, illegal, privilege, notCarried, jump, push, reading, reaching}
 use Rattle.instructions.specs.Rows.{firstRow, placeIn}
@@ -87,10 +89,10 @@ module _ (g : List ℕ) (at sr : ℕ) (m : Memory) (op : ℕ) where
       reading-only m (words (plus at 2) (extension Immediate z)) (value g m (plus at 2) Immediate z) _ (missing-immediate m g (plus at 2) z) (λ v. refl)
 
   -- a data register, which takes no access, or an operand that does
-  data-or : (pc : ℕ) (z : Size) (c d : Change) → Made m [] c → Made m (operandAt g m pc op z) d → Made m (operandAt g m pc op z) (cond (eqb (op / 8 % 8) 0) c d)
-  data-or pc z c d p q = by (eqb (op / 8 % 8) 0) refl
+  data-or : (pc : ℕ) (z : Size) (c d : Change) → Made m [] c → Made m (operandAt g m pc op z) d → Made m (operandAt g m pc op z) (cond (eqb (mode op) 0) c d)
+  data-or pc z c d p q = by (eqb (mode op) 0) refl
     where
-      by : (b : Bool) → eqb (op / 8 % 8) 0 ≡ b → Made m (operandAt g m pc op z) (cond b c d)
+      by : (b : Bool) → eqb (mode op) 0 ≡ b → Made m (operandAt g m pc op z) (cond b c d)
       by true e = rw (of-data m g pc op z (eqb-true _ _ e)) p
       by false e = q
 
@@ -98,7 +100,7 @@ module _ (g : List ℕ) (at sr : ℕ) (m : Memory) (op : ℕ) where
   unfolding l0.bitOfByte done
   bit-of-byte pc n =
       destination-made m g pc op Byte _
-      (λ v found. either-made m (eqb (op / 64 % 4) 0) [] _ _ refl (put-to-made m [] g _ (destination g m pc op Byte) Byte _ found))
+      (λ v found. either-made m (eqb (bitOperator op) 0) [] _ _ refl (put-to-made m [] g _ (destination g m pc op Byte) Byte _ found))
 
   bit-operation : (pc n : ℕ) → Made m (operandAt g m pc op Byte) (l0.bitOperation g pc sr m op n)
   unfolding l0.bitOperation l0.bitOfData done
@@ -129,50 +131,32 @@ module _ (g : List ℕ) (at sr : ℕ) (m : Memory) (op : ℕ) where
       (row (words (plus at 2) (extension Immediate Long)) (l0.cmpi Long g at sr m op) (compare-immediate Long)
       (row (wordAt (plus at 2) ++ operandAt g m (plus at 4) op Byte) (l0.bitByImmediate g at sr m op) by-immediate
       (row (from Byte) (l0.bitByRegister g at sr m op) by-register
-      end)))))))))))))
+      (row none (illegal at sr) (illegal-made m at sr)
+      end))))))))))))))
       (placeIn (firstRow 0) n) none (illegal at sr) (illegal-made m at sr)
 
   -- ---- lines 1, 2 and 3
 
-  -- the destination: a data register takes no word
-  data-taken : (z : Size) → op / 64 % 8 ≡ 0 → extension (operand (op / 64 % 8) (op / 512 % 8)) z ≡ 0
-  unfolding operand extension
-  data-taken z e = rw e
-
-  move-to : (z : Size) (pc : ℕ) (c : Change) (h : List ℕ) (one : Write) (v : ℕ)
-      → let o : Operand = operand (op / 64 % 8) (op / 512 % 8) in
-      Made m [] c → Made m (words pc (extension o z)) (cond (eqb (op / 64 % 8) 0) c (moves.moveTo z h sr m pc one o v))
-  unfolding moves.moveTo
-  move-to z pc c h one v p = by (eqb (op / 64 % 8) 0) refl
-    where
-      o : Operand
-      o = operand (op / 64 % 8) (op / 512 % 8)
-
-      by : (b : Bool) → eqb (op / 64 % 8) 0 ≡ b → Made m (words pc (extension o z)) (cond b c (moves.moveTo z h sr m pc one o v))
-      by true e = rw (data-taken z (eqb-true _ _ e)) p
-      by false e = put-made m (words pc (extension o z)) h _ _ _ _ (locate h m pc o z) z v (locate-made m h pc o z)
-
   move-made : (z : Size) → Made m (acc.moveReads g at m op z) (moves.move z g at sr m op)
-  unfolding moves.move source done
+  unfolding moves.move source destinationOf
   move-made z =
       let next : ℕ = plus (plus at 2) (extension (named op) z) in
-      source-made m g (plus at 2) op z (words next (extension (operand (op / 64 % 8) (op / 512 % 8)) z)) _ (λ v. move-to z next _ _ _ v refl)
+      let o : Operand = operand (upperMode op) (upper op) in
+      source-made m g (plus at 2) op z (words next (extension o z)) _
+      (λ v. put-made m (words next (extension o z)) _ z v (locate _ m next o z) _ _ _ _ (locate-made m _ next o z))
 
   move-address : (z : Size) → Made m (from z) (moves.movea z g at sr m op)
   unfolding moves.movea done
   move-address z = source-only m g (plus at 2) op z _ (λ v. refl)
 
-  pub line1-made : (n : ℕ) → Made m (acc.reads1 g at m op n) (moves.line1 n g at sr m op)
-  unfolding acc.reads1 moves.line1
-  line1-made n = all-made (row (from Byte) (moves.movea Byte g at sr m op) (move-address Byte) end) (placeIn (firstRow 1) n) _ _ (move-made Byte)
-
-  pub line2-made : (n : ℕ) → Made m (acc.reads2 g at m op n) (moves.line2 n g at sr m op)
-  unfolding acc.reads2 moves.line2
-  line2-made n = all-made (row (from Long) (moves.movea Long g at sr m op) (move-address Long) end) (placeIn (firstRow 2) n) _ _ (move-made Long)
-
-  pub line3-made : (n : ℕ) → Made m (acc.reads3 g at m op n) (moves.line3 n g at sr m op)
-  unfolding acc.reads3 moves.line3
-  line3-made n = all-made (row (from Word) (moves.movea Word g at sr m op) (move-address Word) end) (placeIn (firstRow 3) n) _ _ (move-made Word)
+  pub moves-made : (first : ℕ) (z : Size) (n : ℕ) → Made m (acc.readsMoves g at m op first z n) (moves.moves first z n g at sr m op)
+  unfolding acc.readsMoves moves.moves
+  moves-made first z n =
+      all-made
+      (row (from z) (moves.movea z g at sr m op) (move-address z)
+      (row (acc.moveReads g at m op z) (moves.move z g at sr m op) (move-made z)
+      end))
+      (placeIn first n) none (illegal at sr) (illegal-made m at sr)
 
   -- ---- line 4
 
@@ -214,9 +198,9 @@ module _ (g : List ℕ) (at sr : ℕ) (m : Memory) (op : ℕ) where
   unfolding l4.link store
   link-made = load-made m (plus at 2) Word [] _ refl
 
-  unlk-made : Made m (longAt (addressOf g op)) (l4.unlk g at sr m op)
+  unlk-made : Made m (longAt (addressOf g (register op))) (l4.unlk g at sr m op)
   unfolding l4.unlk done
-  unlk-made = load-made m (addressOf g op) Long [] _ refl
+  unlk-made = load-made m (addressOf g (register op)) Long [] _ refl
 
   -- what the supervisor alone does, and nobody refuses
   allowed : (c : Change) → Made m [] c → Made m [] (cond (supervisor sr) c (privilege at sr))
@@ -248,7 +232,7 @@ module _ (g : List ℕ) (at sr : ℕ) (m : Memory) (op : ℕ) where
 
   from-sr : Made m none (l4.moveFromSr g at sr op)
   unfolding l4.moveFromSr done
-  from-sr = allowed _ (either-made m (eqb (op / 8 % 8) 0) [] _ _ refl (illegal-made m at sr))
+  from-sr = allowed _ (either-made m (eqb (mode op) 0) [] _ _ refl (illegal-made m at sr))
 
   to-sr : Made m (from Word) (l4.moveToSr g at sr m op)
   unfolding l4.moveToSr acting enterAfter
@@ -269,27 +253,27 @@ module _ (g : List ℕ) (at sr : ℕ) (m : Memory) (op : ℕ) where
       rw next-word
       (load-made m (plus at 2) Word displaced _
       (in-mode-2 _ _ (many-made b _ _)
-      (cond-made m (eqb (op / 8 % 8) 5) (wordAt (plus at 4)) none _ _ (load-made m (plus at 4) Word [] _ (many-made b _ _)) (illegal-made m at sr))))
+      (cond-made m (eqb (mode op) 5) (wordAt (plus at 4)) none _ _ (load-made m (plus at 4) Word [] _ (many-made b _ _)) (illegal-made m at sr))))
     where
       displaced : List Wanted
-      displaced = cond (eqb (op / 8 % 8) 5) (wordAt (plus at 4)) none
+      displaced = cond (eqb (mode op) 5) (wordAt (plus at 4)) none
 
-      in-mode-2 : (c d : Change) → Made m [] c → Made m displaced d → Made m displaced (cond (eqb (op / 8 % 8) 2) c d)
-      in-mode-2 c d p q = by (eqb (op / 8 % 8) 2) refl
+      in-mode-2 : (c d : Change) → Made m [] c → Made m displaced d → Made m displaced (cond (eqb (mode op) 2) c d)
+      in-mode-2 c d p q = by (eqb (mode op) 2) refl
         where
-          by : (b : Bool) → eqb (op / 8 % 8) 2 ≡ b → Made m displaced (cond b c d)
-          by true e = rw (eqb-true (op / 8 % 8) 2 e) p
+          by : (b : Bool) → eqb (mode op) 2 ≡ b → Made m displaced (cond b c d)
+          by true e = rw (eqb-true (mode op) 2 e) p
           by false e = q
 
-  clear-made : Made m (extensionOf (plus at 2) op (sizeOf (op / 64))) (l4.clr g at sr m op)
+  clear-made : Made m (extensionOf (plus at 2) op (sizeField op)) (l4.clr g at sr m op)
   unfolding l4.clr
   clear-made =
-      let z : Size = sizeOf (op / 64) in
+      let z : Size = sizeField op in
       put-to-made m (extensionOf (plus at 2) op z) g _ (destination g m (plus at 2) op z) z 0 (destination-found m g (plus at 2) op z)
 
-  test-made : Made m (from (sizeOf (op / 64))) (l4.tst g at sr m op)
+  test-made : Made m (from (sizeField op)) (l4.tst g at sr m op)
   unfolding l4.tst done
-  test-made = source-only m g (plus at 2) op (sizeOf (op / 64)) _ (λ v. refl)
+  test-made = source-only m g (plus at 2) op (sizeField op) _ (λ v. refl)
 
   tas-made : Made m (from Byte) (l4.tas g at sr m op)
   unfolding l4.tas
@@ -306,7 +290,7 @@ module _ (g : List ℕ) (at sr : ℕ) (m : Memory) (op : ℕ) where
       rw next-word
       (load-made m (plus at 2) Word (operandAt g m (plus at 4) op Long) _
       (source-only m g (plus at 4) op Long _
-      (λ v. either-made m (eqb v 0) [] _ _ refl (either-made m (l4.divided _ (dataOf g (_ / 0x1000)) v .fits) [] _ _ refl refl))))
+      (λ v. either-made m (eqb v 0) [] _ _ refl (either-made m (l4.divided _ (dataOf g (bits 14 12 _)) v .fits) [] _ _ refl refl))))
 
   pub line4-made : (other n : ℕ) → ((firstRow 4 + placeIn (firstRow 4) n ≡ movecRead) ⊎ (firstRow 4 + placeIn (firstRow 4) n ≡ movecWrite)) ⊎ Made m (acc.reads4 g at m op n) (l4.line4 n g at sr other m op)
   unfolding acc.reads4 l4.line4 l4.nop l4.halt l4.trap l4.moveFromCcr l4.swap l4.extb l4.extW l4.extL l4.sats l4.neg l4.negx l4.not jump done acting enter enterAfter
@@ -324,7 +308,7 @@ module _ (g : List ℕ) (at sr : ℕ) (m : Memory) (op : ℕ) where
       (row (acc.statusReads g at m op) (l4.stldsr at sr m) stldsr-made
       (row none (l4.extb g at sr op) refl
       (row (wordAt (plus at 2)) (l4.link g at sr m op) link-made
-      (row (longAt (addressOf g op)) (l4.unlk g at sr m op) unlk-made
+      (row (longAt (addressOf g (register op))) (l4.unlk g at sr m op) unlk-made
       (row none (l4.moveToUsp g at sr op) to-usp
       (row none (l4.moveFromUsp at sr other op) (from-usp other)
       (row none (l4.moveFromCcr g at sr op) refl
@@ -348,10 +332,11 @@ module _ (g : List ℕ) (at sr : ℕ) (m : Memory) (op : ℕ) where
       (row (wordAt (plus at 2) ++ operandAt g m (plus at 4) op Long) (l4.mulL g at sr m op) multiply-made
       (row (wordAt (plus at 2) ++ operandAt g m (plus at 4) op Long) (l4.divL g at sr m op) divide-made
       (row (from Byte) (l4.tas g at sr m op) tas-made
-      (row (extensionOf (plus at 2) op (sizeOf (op / 64))) (l4.clr g at sr m op) clear-made
-      (row (from (sizeOf (op / 64))) (l4.tst g at sr m op) test-made
+      (row (extensionOf (plus at 2) op (sizeField op)) (l4.clr g at sr m op) clear-made
+      (row (from (sizeField op)) (l4.tst g at sr m op) test-made
       (row address-words (l4.lea g at sr m op) lea-made
-      end)))))))))))))))))))))))))))))))))))))))
+      (row none (illegal at sr) (illegal-made m at sr)
+      end))))))))))))))))))))))))))))))))))))))))
       (placeIn (firstRow 4) n) none (illegal at sr) (illegal-made m at sr)
 
   -- ---- lines 9 and D, and 5
@@ -381,12 +366,13 @@ module _ (g : List ℕ) (at sr : ℕ) (m : Memory) (op : ℕ) where
       (row (from Word) (l9.adda add Word g at sr m op) (to-address add Word)
       (row (from Long) (l9.adda add Long g at sr m op) (to-address add Long)
       (row (from (anySize op)) (l9.addToData add g at m op) (to-data add)
-      end)))))))))
-      (placeIn first n) (from (anySize op)) _ (to-place add (anySize op) (dataOf g (op / 512)))
+      (row (from (anySize op)) (l9.addToMemory add g at m op) (to-place add (anySize op) (dataOf g (upper op)))
+      end))))))))))
+      (placeIn first n) none (illegal at sr) (illegal-made m at sr)
 
   quick-made : Made m (from (anySize op)) (l5.addq g at m op)
-  unfolding l5.addq l5.addqData done
-  quick-made = data-or (plus at 2) (anySize op) _ _ refl (to-place _ _ _)
+  unfolding l5.addq
+  quick-made = to-place _ _ _
 
   pub line5-made : (n : ℕ) → Made m (acc.reads5 g at m op n) (l5.line5 n g at sr m op)
   unfolding acc.reads5 l5.line5 l5.tpf l5.addqAddress l5.scc jump done
@@ -400,13 +386,14 @@ module _ (g : List ℕ) (at sr : ℕ) (m : Memory) (op : ℕ) where
       (row none (l5.addqAddress g at sr op) refl
       (row none (l5.scc g at sr op) refl
       (row none (illegal at sr) (illegal-made m at sr)
-      end))))))))
-      (placeIn (firstRow 5) n) (from (anySize op)) _ quick-made
+      (row (from (anySize op)) (l5.addq g at m op) quick-made
+      end)))))))))
+      (placeIn (firstRow 5) n) none (illegal at sr) (illegal-made m at sr)
 
   -- ---- lines 6 and 7
 
   abbrev branch-words : List Wanted
-  branch-words = words (plus at 2) (l6.displacementBytes (op % 256))
+  branch-words = words (plus at 2) (l6.displacementBytes (lowByte op))
 
   missing-displacement : (pc low : ℕ) → missing (l6.displacement m pc low) ≡ accessAll m (words pc (l6.displacementBytes low))
   unfolding l6.displacement l6.displacementBytes load
@@ -423,8 +410,8 @@ module _ (g : List ℕ) (at sr : ℕ) (m : Memory) (op : ℕ) where
       by false true = missing-found m Long (access m pc 4)
       by false false = refl
 
-  branch-made : (f : ℕ → Change) → ((d : ℕ) → Made m [] (f d)) → Made m branch-words (reading (l6.displacement m (plus at 2) (op % 256)) f)
-  branch-made f h = reading-only m branch-words (l6.displacement m (plus at 2) (op % 256)) f (missing-displacement (plus at 2) (op % 256)) h
+  branch-made : (f : ℕ → Change) → ((d : ℕ) → Made m [] (f d)) → Made m branch-words (reading (l6.displacement m (plus at 2) (lowByte op)) f)
+  branch-made f h = reading-only m branch-words (l6.displacement m (plus at 2) (lowByte op)) f (missing-displacement (plus at 2) (lowByte op)) h
 
   bra-made : Made m branch-words (l6.bra at sr m op)
   unfolding l6.bra
@@ -441,21 +428,31 @@ module _ (g : List ℕ) (at sr : ℕ) (m : Memory) (op : ℕ) where
   pub line6-made : (n : ℕ) → Made m (acc.reads6 g at m op n) (l6.line6 n g at sr m op)
   unfolding acc.reads6 l6.line6
   line6-made n =
-      all-made (row branch-words (l6.bra at sr m op) bra-made (row branch-words (l6.bsr g at sr m op) bsr-made end)) (placeIn (firstRow 6) n) branch-words _ bcc-made
+      all-made
+      (row branch-words (l6.bra at sr m op) bra-made
+      (row branch-words (l6.bsr g at sr m op) bsr-made
+      (row branch-words (l6.bcc at sr m op) bcc-made
+      end)))
+      (placeIn (firstRow 6) n) none (illegal at sr) (illegal-made m at sr)
 
-  move-signed : Made m (from (sizeOf (op / 64 % 2))) (l7.mvs g at sr m op)
+  move-signed : Made m (from (byteOrWord op)) (l7.mvs g at sr m op)
   unfolding l7.mvs done
-  move-signed = source-only m g (plus at 2) op (sizeOf (op / 64 % 2)) _ (λ v. refl)
+  move-signed = source-only m g (plus at 2) op (byteOrWord op) _ (λ v. refl)
 
-  move-zero : Made m (from (sizeOf (op / 64 % 2))) (l7.mvz g at sr m op)
+  move-zero : Made m (from (byteOrWord op)) (l7.mvz g at sr m op)
   unfolding l7.mvz done
-  move-zero = source-only m g (plus at 2) op (sizeOf (op / 64 % 2)) _ (λ v. refl)
+  move-zero = source-only m g (plus at 2) op (byteOrWord op) _ (λ v. refl)
 
   pub line7-made : (n : ℕ) → Made m (acc.reads7 g at m op n) (l7.line7 n g at sr m op)
   unfolding acc.reads7 l7.line7 l7.moveq done
   line7-made n =
-      let l : List Wanted = from (sizeOf (op / 64 % 2)) in
-      all-made (row l (l7.mvs g at sr m op) move-signed (row l (l7.mvz g at sr m op) move-zero end)) (placeIn (firstRow 7) n) none (l7.moveq at sr op) refl
+      let l : List Wanted = from (byteOrWord op) in
+      all-made
+      (row l (l7.mvs g at sr m op) move-signed
+      (row l (l7.mvz g at sr m op) move-zero
+      (row none (l7.moveq at sr op) refl
+      end)))
+      (placeIn (firstRow 7) n) none (illegal at sr) (illegal-made m at sr)
 
   -- ---- lines B, C, E and F
 
@@ -463,9 +460,9 @@ module _ (g : List ℕ) (at sr : ℕ) (m : Memory) (op : ℕ) where
   unfolding lb.cmpa done
   compare-address z = source-only m g (plus at 2) op z _ (λ v. refl)
 
-  compare-data : Made m (from (sizeOf (op / 64))) (lb.cmp g at sr m op)
+  compare-data : Made m (from (sizeField op)) (lb.cmp g at sr m op)
   unfolding lb.cmp done
-  compare-data = source-only m g (plus at 2) op (sizeOf (op / 64)) _ (λ v. refl)
+  compare-data = source-only m g (plus at 2) op (sizeField op) _ (λ v. refl)
 
   logic-to-place : (l : Logic) → Made m (from (anySize op)) (lb.logicToPlace l g at sr m op)
   unfolding lb.logicToPlace
@@ -479,9 +476,10 @@ module _ (g : List ℕ) (at sr : ℕ) (m : Memory) (op : ℕ) where
       all-made
       (row (from Word) (lb.cmpa Word g at sr m op) (compare-address Word)
       (row (from Long) (lb.cmpa Long g at sr m op) (compare-address Long)
-      (row (from (sizeOf (op / 64))) (lb.cmp g at sr m op) compare-data
-      end)))
-      (placeIn (firstRow 0xB) n) (from (anySize op)) _ (logic-to-place Eor)
+      (row (from (sizeField op)) (lb.cmp g at sr m op) compare-data
+      (row (from (anySize op)) (lb.logicToPlace Eor g at sr m op) (logic-to-place Eor)
+      end))))
+      (placeIn (firstRow 0xB) n) none (illegal at sr) (illegal-made m at sr)
 
   logic-to-data : (l : Logic) → Made m (from (anySize op)) (lc.logicToData l g at sr m op)
   unfolding lc.logicToData done
@@ -498,18 +496,20 @@ module _ (g : List ℕ) (at sr : ℕ) (m : Memory) (op : ℕ) where
       (row (from Word) (lc.mulW false g at sr m op) (multiply-words false)
       (row (from Word) (lc.mulW true g at sr m op) (multiply-words true)
       (row (from (anySize op)) (lc.logicToData And g at sr m op) (logic-to-data And)
-      end)))
-      (placeIn (firstRow 0xC) n) (from (anySize op)) _ (logic-to-place And)
+      (row (from (anySize op)) (lb.logicToPlace And g at sr m op) (logic-to-place And)
+      end))))
+      (placeIn (firstRow 0xC) n) none (illegal at sr) (illegal-made m at sr)
 
   -- a shift, and every other word of the line, reads nothing
   pub lineE-made : (n : ℕ) → Made m none (le.lineE n g at sr op)
   unfolding le.lineE le.shift done
   lineE-made n = by (placeIn (firstRow 0xE) n)
     where
-      by : (i : ℕ) → Made m none (getD (le.shift true g at sr op ∷ le.shift false g at sr op ∷ []) i (illegal at sr))
+      by : (i : ℕ) → Made m none (getD (le.shift true g at sr op ∷ le.shift false g at sr op ∷ illegal at sr ∷ []) i (illegal at sr))
       by zero = refl
       by (suc zero) = refl
-      by (suc (suc i)) = illegal-made m at sr
+      by (suc (suc zero)) = illegal-made m at sr
+      by (suc (suc (suc i))) = illegal-made m at sr
 
   debug-ends : (pc : ℕ) (l : List Wanted) (got : Reached) (size skipped : ℕ) → unreached got ≡ accessAll m l → Made m l (lf.debugEnds sr pc got size skipped)
   debug-ends pc l (At (Value a)) size skipped e = rw (← e) (jump-made _)
@@ -524,10 +524,10 @@ module _ (g : List ℕ) (at sr : ℕ) (m : Memory) (op : ℕ) where
   unfolding lf.cacheLine
   cache-line = allowed _ (jump-made _)
 
-  debug-data : Made m (extensionOf (plus at 2) op (sizeOf (op / 64))) (lf.wddata g at sr m op)
+  debug-data : Made m (extensionOf (plus at 2) op (sizeField op)) (lf.wddata g at sr m op)
   unfolding lf.wddata done
   debug-data =
-      let z : Size = sizeOf (op / 64) in
+      let z : Size = sizeField op in
       locating-made m (extensionOf (plus at 2) op z) (destination g m (plus at 2) op z .place) _ (destination-found m g (plus at 2) op z) refl
 
   pub lineF-made : (n : ℕ) → Made m (acc.readsF g at m op n) (lf.lineF n g at sr m op)
@@ -536,9 +536,10 @@ module _ (g : List ℕ) (at sr : ℕ) (m : Memory) (op : ℕ) where
       all-made
       (row address-words (lf.wdebug g at sr m op) write-debug
       (row none (lf.cacheLine at sr) cache-line
-      (row (extensionOf (plus at 2) op (sizeOf (op / 64))) (lf.wddata g at sr m op) debug-data
-      end)))
-      (placeIn (firstRow 0xF) n) none (enter sr 11 at) refl
+      (row (extensionOf (plus at 2) op (sizeField op)) (lf.wddata g at sr m op) debug-data
+      (row none (lf.unassigned at sr) refl
+      end))))
+      (placeIn (firstRow 0xF) n) none (illegal at sr) (illegal-made m at sr)
 
   -- ---- line A
 
@@ -555,9 +556,9 @@ module _ (g : List ℕ) (at sr : ℕ) (m : Memory) (op : ℕ) where
 
   from-acc : (e : Emac) → Made m none (la.moveFromAcc at sr e op)
   unfolding la.moveFromAcc acting
-  from-acc e = by (eqb (op / 64 % 2) 1)
+  from-acc e = by (bitOf 6 op)
     where
-      by : (b : Bool) → refusing (cond b (ClearAcc (la.accNumber op)) Nothing) ≡ 0
+      by : (b : Bool) → refusing (cond b (ClearAcc (accField op)) Nothing) ≡ 0
       by true = refl
       by false = refl
 
@@ -577,7 +578,7 @@ module _ (g : List ℕ) (at sr : ℕ) (m : Memory) (op : ℕ) where
       (row none (la.moveAccToAcc at sr op) refl
       (row none (la.moveToGeneral at sr op (e .macsr)) refl
       (row none (la.moveToGeneral at sr op (e .mask)) refl
-      (row none (la.moveToGeneral at sr op (readExt (has (e .macsr) 5) e (la.extPair op))) refl
+      (row none (la.moveToGeneral at sr op (readExt (fractional (e .macsr)) e (extField op))) refl
       (row (from Long) (la.moveToEmac Macsr g at sr m op) (to-emac Macsr)
       (row (from Long) (la.moveToEmac Mask g at sr m op) (to-emac Mask)
       (row none (la.moveFromAcc at sr e op) (from-acc e)
@@ -585,5 +586,6 @@ module _ (g : List ℕ) (at sr : ℕ) (m : Memory) (op : ℕ) where
       (row (from Long) (la.moveToEmac Acc g at sr m op) (to-emac Acc)
       (row (extensionOf (plus at 2) op Long) (la.mov3q g at sr m op) move-three
       (out (acc.macReads g at m op (e .mask)) (la.mac g at sr (e .mask) m op) refl
-      end))))))))))))
-      (placeIn (firstRow 0xA) n) (from Long) _ unassigned-made
+      (row (from Long) (la.unassigned g at sr m op) unassigned-made
+      end)))))))))))))
+      (placeIn (firstRow 0xA) n) none (illegal at sr) (illegal-made m at sr)

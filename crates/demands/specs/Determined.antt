@@ -16,9 +16,8 @@ use Rattle.manual.specs.Image.{loadImage, runText, answerLine, textOf}
 use Rattle.manual.specs.Memory.{Storage}
 use Rattle.instructions.specs.Step.{step}
 use Rattle.instructions.specs.Run.{run}
-use Rattle.emac_lent.specs.UnitCalls as unit
-use Rattle.harness.specs.Calls.{rteOn, exceptionOn, interruptOn}
-use Rattle.harness.specs.StepCalls.{stepOn, runOn}
+use Rattle.manual.specs.UnitCalls as unit
+use Rattle.instructions.specs.HostCalls.{rteOn, exceptionOn, interruptOn, stepOn, runOn}
 
 -- what a promise allows is what is equal to x; two such outcomes are equal
 abbrev pub Determined : {A : Type 0} → A → Type 0
@@ -79,8 +78,8 @@ lent-accumulate-determined e i scale sub x y = determined (unit.accumulateCall e
 pub lent-set-macsr-determined : (e : Emac) (v : ℕ) → Determined (unit.setMacsrCall e v)
 lent-set-macsr-determined e v = determined (unit.setMacsrCall e v)
 
-pub lent-move-to-determined : (e : Emac) (i v : ℕ) → Determined (unit.moveToCall e i v)
-lent-move-to-determined e i v = determined (unit.moveToCall e i v)
+pub lent-set-acc-determined : (e : Emac) (i v : ℕ) → Determined (unit.setAccCall e i v)
+lent-set-acc-determined e i v = determined (unit.setAccCall e i v)
 
 pub lent-clear-acc-determined : (e : Emac) (i : ℕ) → Determined (unit.clearAccCall e i)
 lent-clear-acc-determined e i = determined (unit.clearAccCall e i)

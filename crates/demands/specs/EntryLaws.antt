@@ -21,7 +21,9 @@ use Rattle.manual.specs.Reply.{Outcome, isDone, completed, unchanged, refusal, 
 use Rattle.manual.specs.Admitted.{status}
 use Rattle.manual.specs.Lent.{Lent, memoryOf, firstRefusal, checked}
 use Rattle.manual.specs.Differences.{frameBytes, vectorPlace}
-use Rattle.manual.specs.Exceptions.{supervisor, twoStacks, setSr, handlerSr, frameLong, pcPlace, framePlace, framed, handlerState, entered, returnState, returned}
+use Rattle.manual.specs.Bits.{withBit}
+use Rattle.word.specs.BitLaws.{with-parts}
+use Rattle.manual.specs.Exceptions.{supervisor, twoStacks, setSr, withMask, handlerSr, frameLong, pcPlace, framePlace, framed, handlerState, entered, returnState, returned}
 use Rattle.word.specs.TestLaws.{by-lt}
 use Rattle.memory.specs.MemoryLaws.{length-store, value-same, read-other, read-same}
 use Rattle.demands.specs.Exact.{Ready}
@@ -99,10 +101,16 @@ s-status v =
     let e : v / 0x1000 % 4 / 2 ≡ v / 0x2000 % 2 = omega arith in
     rw (s-of (v / 0x8000) (v / 0x1000) (v / 0x100) v, e)
 
+s-set : (v : ℕ) → withBit 13 true v / 0x2000 % 2 ≡ 1
+s-set v = omega (arith, with-parts 13 v true)
+
+under-mask : (v level : ℕ) → withMask v (level % 8 * 0x100) / 0x2000 % 2 ≡ v / 0x2000 % 2
+under-mask v level = omega arith
+
 s-handling : (level : Level) (sr : ℕ) → handlerSr level sr / 0x2000 % 2 ≡ 1
 unfolding handlerSr
-s-handling Kept sr = omega arith
-s-handling (To level) sr = omega arith
+s-handling Kept sr = s-set _
+s-handling (To level) sr = under-mask _ level ∙ s-set _
 
 pub handler-s : (level : Level) (sr : ℕ) → supervisor (status (handlerSr level sr)) ≡ true
 handler-s level sr = s-status (handlerSr level sr) ∙ eq-eqb _ 1 (s-handling level sr)

@@ -11,6 +11,7 @@ use Rattle.manual.specs.declared.Level.the-variants.{Kept}
 use Rattle.manual.specs.declared.Size.the-variants.{Long}
 use Rattle.manual.specs.Reply.{numberOf, Outcome}
 use Rattle.manual.specs.Word as word
+use Rattle.manual.specs.Bits as bits
 use Rattle.manual.specs.Flags as flags
 use Rattle.manual.specs.Registers as registers
 use Rattle.manual.specs.Memory as memory
@@ -135,5 +136,5 @@ examples =
     ∷ [])
 
 pub checked-by-hand : map (λ x. x .given) examples ≡ map (λ x. x .said) examples
-unfolding examples step execute instruction perform rowOf placeIn admitted.admitted admitted.status admitted.emacAdmitted memory.load memory.valueAt memory.storeAt word.cut word.merged word.plus word.minus word.sizeOf word.signedAt word.signExtended registers.dataOf registers.addressOf registers.general registers.noWrite registers.writeData registers.written registers.withParts registers.withAddress registers.withPc registers.withSr registers.withStopped registers.withEmac registers.coded registers.applied address.operand address.extension address.source address.value address.fetch address.locate address.moved change.done change.acting flags.codes flags.keptCodes flags.moveCodes flags.added flags.subtracted flags.sumOrDifference flags.sumCodes l9.sums l9.addToData le.lineE le.shift le.shifted le.shiftCount shift.shiftedLeft shift.signedShiftedRight shift.shiftCodes l4.line4 l4.divL l4.divided divide.signedQuotient divide.overflowCodes l0.line0 l0.ff1 leadingZeros la.lineA la.mac la.macRegisters la.moveToEmac la.setting emac.modeOf emac.accOf emac.withAcc emac.settled emac.accumulate emac.moveTo exceptions.setSr exceptions.handlerSr exceptions.frameLong exceptions.handlerState exceptions.entered exceptions.returnState exceptions.returned exceptions.exception exceptions.rte fresh lents.lentRefusal lents.stateRefusal lents.firstRefusal memory.access
+unfolding examples step execute bits.withBit instruction perform rowOf placeIn admitted.admitted admitted.status admitted.emacAdmitted memory.load memory.valueAt memory.storeAt word.cut word.merged word.plus word.minus word.sizeOf word.signedAt word.signExtended registers.dataOf registers.addressOf registers.general registers.noWrite registers.writeData registers.written registers.withParts registers.withAddress registers.withPc registers.withSr registers.withStopped registers.withEmac registers.coded registers.applied address.operand address.extension address.source address.value address.fetch address.locate address.moved change.done change.acting flags.codes flags.keptCodes flags.moveCodes flags.added flags.subtracted flags.sumOrDifference flags.sumCodes l9.sums l9.addToData le.lineE le.shift le.shifted le.shiftCount shift.shiftedLeft shift.signedShiftedRight shift.shiftCodes l4.line4 l4.divL l4.divided divide.signedQuotient divide.overflowCodes l0.line0 l0.ff1 leadingZeros la.lineA la.mac la.macRegisters la.moveToEmac la.setting emac.modeOf emac.accOf emac.withAcc emac.withSum emac.accumulate emac.setAcc exceptions.setSr exceptions.handlerSr exceptions.frameLong exceptions.handlerState exceptions.entered exceptions.returnState exceptions.returned exceptions.exception exceptions.rte fresh lents.lentRefusal lents.stateRefusal lents.firstRefusal memory.access
 checked-by-hand = refl

@@ -24,8 +24,7 @@ use Rattle.manual.specs.Exceptions.{exception, interrupt, rte}
 use Rattle.manual.specs.Block.{readBlock, storeBlock}
 use Rattle.instructions.specs.Step.{step}
 use Rattle.instructions.specs.Run.{RunOutcome, run}
-use Rattle.harness.specs.Calls.{Called, called, blockReply, notRead, settled, onBlock, exceptionOn, interruptOn, rteOn}
-use Rattle.harness.specs.StepCalls.{stepOn, runOn}
+use Rattle.instructions.specs.HostCalls.{Called, called, blockReply, blockRefused, blockAfter, onBlock, exceptionOn, interruptOn, rteOn, stepOn, runOn}
 use Rattle.demands.specs.Refusals.{NotZero, Unchanged, is-refused, refusals}
 use Rattle.demands.specs.Runs.{Steps, none, one-more, runs}
 use Rattle.demands.specs.Admits.{admits}
@@ -156,17 +155,17 @@ module _ (w : ℕ) (low : (n v : ℕ) → n ≤ 9 → (n + w * v) % 256 ≡ n) (
   block-number r = by (isDone (r .reply))
     where
       by : (d : Bool)
-          → replyIn (cond d (called (numberOf (o .stepped .reply) + w * o .stepped .vector) (settled (o .stepped .reply) (o .stepped .cpu) b) (o .storage)) (notRead r b l))
+          → replyIn (cond d (called (numberOf (o .stepped .reply) + w * o .stepped .vector) (blockAfter (o .stepped .reply) (o .stepped .cpu) b) (o .storage)) (blockRefused r b l))
           ≡ cond d (numbered o) (numberOf (blockReply (r .reply) l))
       by true = low _ _ (number-small (o .stepped .reply))
       by false = omega (arith, number-small (blockReply (r .reply) l))
 
   block-kept : (r : Answer) → Unchanged (r .cpu) (l .storage) o → HostUnchanged b (l .storage) (onBlock w r o b l)
-  unfolding onBlock settled
+  unfolding onBlock blockAfter
   block-kept r kept = by (isDone (r .reply))
     where
       by : (d : Bool)
-          → HostUnchanged b (l .storage) (cond d (called (numberOf (o .stepped .reply) + w * o .stepped .vector) (cond (isDone (o .stepped .reply)) (storeBlock (o .stepped .cpu) b .bytes) b) (o .storage)) (notRead r b l))
+          → HostUnchanged b (l .storage) (cond d (called (numberOf (o .stepped .reply) + w * o .stepped .vector) (cond (isDone (o .stepped .reply)) (storeBlock (o .stepped .cpu) b .bytes) b) (o .storage)) (blockRefused r b l))
       by true h =
           let n : NotZero (o .stepped .reply) = λ e. h (low _ _ (number-small (o .stepped .reply)) ∙ e) in
           let k : ((o .stepped .cpu ≡ r .cpu) × (o .storage ≡ l .storage)) × (o .stepped .vector ≡ 0) = kept n in
@@ -251,7 +250,7 @@ module _ (b : List ℕ) (l : Lent) where
     run-number = by (isDone (readBlock b .reply)) (cond (eqb (ran .ran .count) 0) b (storeBlock (ran .ran .cpu) b .bytes))
       where
         by : (d : Bool) (x : List ℕ)
-            → replyIn (cond d (called (numberOf (ran .ran .reply) + 256 * ran .ran .count) x (ran .storage)) (notRead (readBlock b) b l))
+            → replyIn (cond d (called (numberOf (ran .ran .reply) + 256 * ran .ran .count) x (ran .storage)) (blockRefused (readBlock b) b l))
             ≡ cond d (numberOf (ran .ran .reply)) (numberOf (blockReply (readBlock b .reply) l))
         by true x = low-256 _ _ (number-small (ran .ran .reply))
         by false x = omega (arith, number-small (blockReply (readBlock b .reply) l))
@@ -273,7 +272,7 @@ module _ (b : List ℕ) (l : Lent) where
     run-kept = by (isDone (readBlock b .reply))
       where
         by : (d : Bool)
-            → let c : Called = cond d (called (numberOf (ran .ran .reply) + 256 * ran .ran .count) (cond (eqb (ran .ran .count) 0) b (storeBlock (ran .ran .cpu) b .bytes)) (ran .storage)) (notRead (readBlock b) b l) in
+            → let c : Called = cond d (called (numberOf (ran .ran .reply) + 256 * ran .ran .count) (cond (eqb (ran .ran .count) 0) b (storeBlock (ran .ran .cpu) b .bytes)) (ran .storage)) (blockRefused (readBlock b) b l) in
             c .answer / 256 ≡ 0 → (c .block ≡ b) × (c .storage ≡ l .storage)
         by true h =
             let z : ran .ran .count ≡ 0 = omega (arith, number-small (ran .ran .reply)) in

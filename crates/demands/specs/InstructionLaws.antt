@@ -10,16 +10,17 @@ use native.Mathlib.Nat.{zero-add}
 use lib.Bits.{bitAnd, and-mask}
 use lib.Dec.{T, eqb, ltb, leb, leb→le, lit<}
 use borrow.Author.Tests.{eqb-true, eq-eqb, ltb-false, le-ltb, lt-ltb}
-use Rattle.manual.specs.declared.Size.the-variants.{Word, Long}
+use Rattle.manual.specs.declared.Size.the-variants.{Byte, Word, Long}
 use Rattle.manual.specs.declared.Emac.{Emac}
 use Rattle.manual.specs.declared.Access.{Access}
 use Rattle.manual.specs.declared.Access.the-variants.{Here, Not}
 use Rattle.manual.specs.declared.Stored.the-variants.{Done as Taken}
 use Rattle.manual.specs.declared.Change.{Change}
 use Rattle.manual.specs.Word.{plus, minus, signExtended}
+use Rattle.manual.specs.Fields.{line, register}
 use Rattle.manual.specs.Registers.{addressOf}
 use Rattle.manual.specs.Memory.{Memory, access, taken, load, numberAt}
-use Rattle.manual.specs.Change.{acting, enterAfter, enter, notCarried, reading}
+use Rattle.manual.specs.Change.{acting, enterAfter, enter, illegal, notCarried, reading}
 use Rattle.word.specs.TestLaws.{by-lt}
 use Rattle.rows.specs.TableLaws.{agree, allBelow, below}
 use Rattle.rows.specs.RowLaws.{rowOf-fits, rowOf-is, unique, in-line}
@@ -39,8 +40,8 @@ use Rattle.instructions.specs.LineE as le
 use Rattle.instructions.specs.LineF as lf
 use Rattle.demands.specs.Accesses as acc
 use Rattle.demands.specs.Accesses.{none, wordAt, longAt, Wanted, Inside}
-use Rattle.demands.specs.PartLaws.{Made, cond-made, load-made, end, row, out, listed, accessAll, past-inside, refused-number}
-use Rattle.demands.specs.BodyLaws.{movecRead, movecWrite, macRow, line0-made, line1-made, line2-made, line3-made, line4-made, sums-made, line5-made, line6-made, line7-made, lineB-made, lineC-made, lineE-made, lineF-made, lineA-made}
+use Rattle.demands.specs.PartLaws.{Made, illegal-made, cond-made, load-made, end, row, out, listed, accessAll, past-inside, refused-number}
+use Rattle.demands.specs.BodyLaws.{movecRead, movecWrite, macRow, line0-made, moves-made, line4-made, sums-made, line5-made, line6-made, line7-made, lineB-made, lineC-made, lineE-made, lineF-made, lineA-made}
 use Rattle.demands.specs.AccessLaws.{load-inside, load-not}
 
 -- ---- MAC and MSAC: a word operand is not carried, in the modes that an instruction of the line has
@@ -53,7 +54,7 @@ module _ (g : List ℕ) (at sr mask : ℕ) (m : Memory) (op : ℕ) where
   second = numberAt m (plus at 2) Word
 
   abbrev base : ℕ
-  base = addressOf g op
+  base = addressOf g (register op)
 
   mac-load : (next a : ℕ) → Made m (longAt (la.loadAddress mask second a)) (la.macLoad g next sr mask m op second a)
   unfolding la.macLoad
@@ -195,9 +196,9 @@ module _ (g : List ℕ) (at sr other : ℕ) (e : Emac) (m : Memory) (op : ℕ) w
       let n : ℕ = rowOf op in
       listed {P = λ k. (k ≡ 4) ⊎ ((k ≡ 8) ⊎ (k ≡ 10))}
       (row (acc.reads0 g at m op n) (l0.line0 n g at sr m op) (line0-made g at sr m op n)
-      (row (acc.reads1 g at m op n) (moves.line1 n g at sr m op) (line1-made g at sr m op n)
-      (row (acc.reads2 g at m op n) (moves.line2 n g at sr m op) (line2-made g at sr m op n)
-      (row (acc.reads3 g at m op n) (moves.line3 n g at sr m op) (line3-made g at sr m op n)
+      (row (acc.readsMoves g at m op (firstRow 1) Byte n) (moves.line1 n g at sr m op) (moves-made g at sr m op (firstRow 1) Byte n)
+      (row (acc.readsMoves g at m op (firstRow 2) Long n) (moves.line2 n g at sr m op) (moves-made g at sr m op (firstRow 2) Long n)
+      (row (acc.readsMoves g at m op (firstRow 3) Word n) (moves.line3 n g at sr m op) (moves-made g at sr m op (firstRow 3) Word n)
       (out (acc.reads4 g at m op n) (l4.line4 n g at sr other m op) (inl refl)
       (row (acc.reads5 g at m op n) (l5.line5 n g at sr m op) (line5-made g at sr m op n)
       (row (acc.reads6 g at m op n) (l6.line6 n g at sr m op) (line6-made g at sr m op n)
@@ -209,8 +210,9 @@ module _ (g : List ℕ) (at sr other : ℕ) (e : Emac) (m : Memory) (op : ℕ) w
       (row (acc.readsC g at m op n) (lc.lineC n g at sr m op) (lineC-made g at sr m op n)
       (row (acc.reads9D g at m op (firstRow 0xD) n) (l9.lineD n g at sr m op) (sums-made g at sr m op (firstRow 0xD) true n)
       (row none (le.lineE n g at sr op) (lineE-made g at sr m op n)
-      end)))))))))))))))
-      (op / 0x1000 % 16) (acc.readsF g at m op n) (lf.lineF n g at sr m op) (lineF-made g at sr m op n)
+      (row (acc.readsF g at m op n) (lf.lineF n g at sr m op) (lineF-made g at sr m op n)
+      end))))))))))))))))
+      (line op) none (illegal at sr) (illegal-made m at sr)
 
   in-line-4 : op / 0x1000 % 16 ≡ 4 → (its-change ≡ l4.line4 (rowOf op) g at sr other m op) × (its-reads ≡ acc.reads4 g at m op (rowOf op))
   unfolding acc.reads instruction

@@ -31,7 +31,7 @@ use Rattle.manual.specs.declared.Action.the-variants.{Nothing, Store, StoreMany
 use Rattle.manual.specs.declared.Change.{Change}
 use Rattle.manual.specs.Word.{bytes}
 use Rattle.manual.specs.Memory.{Memory, storageOf, access, taken, firstFault, found, load, numberIn, numberAt}
-use Rattle.manual.specs.Address.{operand, extension, immediate, locate, fetch, value, source, reached, control, _then_, destination}
+use Rattle.manual.specs.Address.{operand, extension, immediate, locate, fetch, value, source, reached, control, _then_, destination, destinationOf}
 use Rattle.manual.specs.Reply.{numberOf, faultReply}
 use Rattle.manual.specs.Change.{done, store, acting, enterAfter, enter, illegal, privilege, refuse, refused, reading, reaching, locating, put, putTo}
 use Rattle.demands.specs.AccessLaws.{here-or-not, taken-or-not}
@@ -206,19 +206,19 @@ module _ (m : Memory) where
     locate-made Zero z = refl
 
   -- a value goes to a place that was looked for
-  pub put-made : (l : List Wanted) (g : List ℕ) (next codes : ℕ) (one two : Write) (place : Place) (z : Size) (v : ℕ)
-      → nowhere place ≡ accessAll m l → Made m l (put g next codes one two place z v)
+  pub put-made : (l : List Wanted) (g : List ℕ) (z : Size) (v : ℕ) (place : Place) (next codes : ℕ) (first second : Write)
+      → nowhere place ≡ accessAll m l → Made m l (put g z v place (done next codes first second))
   unfolding put done store
-  put-made l g next codes one two (D r) z v e = rw (← e)
-  put-made l g next codes one two (A r) z v e = rw (← e)
-  put-made l g next codes one two (M a) z v e = rw (← e)
-  put-made l g next codes one two (I i) z v e = rw (← e)
-  put-made l g next codes one two (NoPlace x) z v e = rw (← e) (refused-number x)
+  put-made l g z v (D r) next codes first second e = rw (← e)
+  put-made l g z v (A r) next codes first second e = rw (← e)
+  put-made l g z v (M a) next codes first second e = rw (← e)
+  put-made l g z v (I i) next codes first second e = rw (← e)
+  put-made l g z v (NoPlace x) next codes first second e = rw (← e) (refused-number x)
 
   pub put-to-made : (l : List Wanted) (g : List ℕ) (codes : ℕ) (to : Destination) (z : Size) (v : ℕ)
       → nowhere (to .place) ≡ accessAll m l → Made m l (putTo g codes to z v)
   unfolding putTo
-  put-to-made l g codes to z v e = put-made l g (to .next) codes (to .moved) noWrite (to .place) z v e
+  put-to-made l g codes to z v e = put-made l g z v (to .place) (to .next) codes (to .moved) noWrite e
 
   pub locating-made : (l : List Wanted) (place : Place) (c : Change) → nowhere place ≡ accessAll m l → Made m [] c → Made m l (locating place c)
   locating-made l (D r) c e h = rw (← e) h
@@ -262,13 +262,13 @@ module _ (m : Memory) where
 
     -- it is written
     pub destination-found : nowhere (destination g m pc op z .place) ≡ accessAll m (extensionOf pc op z)
-    unfolding destination
+    unfolding destinationOf
     destination-found = locate-made g pc (named op) z
 
     -- it is read and written
     pub destination-made : (f : ℕ → Change) → ((v : ℕ) → nowhere (destination g m pc op z .place) ≡ Taken → Made m [] (f v))
         → Made m (operandAt g m pc op z) (reading (fetch g m (destination g m pc op z .place) z) f)
-    unfolding destination
+    unfolding destinationOf
     destination-made f h = fetch-made g z (extensionOf pc op z) (locate g m pc (named op) z) f (locate-made g pc (named op) z) h
 
   -- a data register takes no access

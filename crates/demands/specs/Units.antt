@@ -9,9 +9,9 @@ use Rattle.manual.specs.declared.Emac.{Emac}
 use Rattle.manual.specs.declared.Reply.the-variants.{Done, NotAdmitted, OutOfRange}
 use Rattle.manual.specs.Reply.{numberOf}
 use Rattle.manual.specs.Admitted.{emacAdmitted}
-use Rattle.emac_lent.specs.declared.unit.EmacAnswer.{EmacAnswer}
-use Rattle.emac_lent.specs.UnitCalls.{answer, changed, accChanged, accumulateCall, setMacsrCall, moveToCall, clearAccCall}
-use Rattle.emac_lent.specs.UnitKept.{accumulate-call-kept, set-macsr-call-kept, move-to-call-kept, clear-acc-call-kept}
+use Rattle.manual.specs.declared.EmacAnswer.{EmacAnswer}
+use Rattle.manual.specs.UnitCalls.{answer, changed, accChanged, accumulateCall, setMacsrCall, setAccCall, clearAccCall}
+use Rattle.emac_lent.specs.UnitKept.{accumulate-call-kept, set-macsr-call-kept, set-acc-call-kept, clear-acc-call-kept}
 use Rattle.demands.specs.Refusals.{NotZero}
 use Rattle.demands.specs.CallReplies.{pick, is-0, not-2, acc-tests, acc-0, acc-2, acc-6}
 
@@ -33,7 +33,7 @@ pub record OnAccumulator (e : Emac) (i : ℕ) (a : EmacAnswer) : Type 0 where
 pub record Units : Type 0 where
   pub of-accumulate : (e : Emac) (i scale : ℕ) (sub : Bool) (x y : ℕ) → OnAccumulator e i (accumulateCall e i scale sub x y)
   pub of-set-macsr : (e : Emac) (v : ℕ) → OnUnit e (setMacsrCall e v)
-  pub of-move-to : (e : Emac) (i v : ℕ) → OnAccumulator e i (moveToCall e i v)
+  pub of-set-acc : (e : Emac) (i v : ℕ) → OnAccumulator e i (setAccCall e i v)
   pub of-clear-acc : (e : Emac) (i : ℕ) → OnAccumulator e i (clearAccCall e i)
 
 -- ---- the proofs: next is the unit where the call is done
@@ -83,10 +83,10 @@ module _ (e next : Emac) where
     }
 
 pub units : Units
-unfolding accumulateCall setMacsrCall moveToCall clearAccCall
+unfolding accumulateCall setMacsrCall setAccCall clearAccCall
 units = record {
   of-accumulate = λ e i scale sub x y. on-accumulator e _ i (λ h. accumulate-call-kept e h i scale sub x y);
   of-set-macsr = λ e v. on-unit e _ (λ h. set-macsr-call-kept e h v);
-  of-move-to = λ e i v. on-accumulator e _ i (λ h. move-to-call-kept e h i v);
+  of-set-acc = λ e i v. on-accumulator e _ i (λ h. set-acc-call-kept e h i v);
   of-clear-acc = λ e i. on-accumulator e _ i (λ h. clear-acc-call-kept e h i);
 }

@@ -9,7 +9,7 @@ use lib.IntN.{pos, negℤ}
 use Rattle.manual.specs.declared.Mode.{Mode}
 use Rattle.manual.specs.declared.Emac.{Emac}
 use Rattle.manual.specs.Word.{modZ}
-use Rattle.manual.specs.Emac.{has, accOf, withAcc, turned, setMacsr, loadedAs, withExt}
+use Rattle.manual.specs.Emac.{fractional, accOf, withAcc, reinterpreted, setMacsr, loadedAs, withExt}
 use Rattle.emac.specs.ProductLaws.{long-pos, long-neg}
 
 -- ---- a long as the mode reads it
@@ -60,10 +60,10 @@ four f (a ∷ b ∷ c ∷ []) e = absurd (let q : _≡_ {A = ℕ} 3 4 = e in ome
 four f (a ∷ b ∷ c ∷ d ∷ []) e = refl
 four f (a ∷ b ∷ c ∷ d ∷ g ∷ l) e = absurd (no (length l) e)
 
-pub set-macsr-is : (e : Emac) (v : ℕ) (o n : Bool) (a b c d : ℕ) → length (e .acc) ≡ 4 → o ≡ has (e .macsr) 5 → n ≡ has (v % 0x1000) 5
-    → a ≡ turned o n (getD (e .acc) 0 0) → b ≡ turned o n (getD (e .acc) 1 0) → c ≡ turned o n (getD (e .acc) 2 0) → d ≡ turned o n (getD (e .acc) 3 0)
+pub set-macsr-is : (e : Emac) (v : ℕ) (o n : Bool) (a b c d : ℕ) → length (e .acc) ≡ 4 → o ≡ fractional (e .macsr) → n ≡ fractional (v % 0x1000)
+    → a ≡ reinterpreted o n (getD (e .acc) 0 0) → b ≡ reinterpreted o n (getD (e .acc) 1 0) → c ≡ reinterpreted o n (getD (e .acc) 2 0) → d ≡ reinterpreted o n (getD (e .acc) 3 0)
     → record { macsr = v % 0x1000; mask = e .mask; acc = a ∷ b ∷ c ∷ d ∷ [] } ≡ setMacsr e v
 unfolding setMacsr
 set-macsr-is e v o n a b c d l eo en ea eb ec ed =
     ap (λ (l : List ℕ). record { macsr = v % 0x1000; mask = e .mask; acc = l })
-    (rw (← eo, ← en, four (turned o n) (e .acc) l, ea, eb, ec, ed))
+    (rw (← eo, ← en, four (reinterpreted o n) (e .acc) l, ea, eb, ec, ed))

@@ -1,14 +1,18 @@
 -- What each way of `mac_read` and its parts is, in plain numbers. Assumes nothing.
-use mathlib.Core.Path.{_≡_}
-use mathlib.Core.Bool.{Bool, true, false, not, _&&_, _||_}
-use Prim.Native.Nat.{ℕ, _+_, _-_, _/_, _%_, _^_}
+use mathlib.Core.Path.{_≡_, refl, sym, ap, _∙_}
+use mathlib.Core.Bool.{Bool, true, false, cond, not, _&&_, _||_, and-false}
+use Prim.Native.Nat.{ℕ, zero, suc, _+_, _-_, _/_, _%_, _^_, _<_}
 use native.Mathlib.Omega.{arith}
 use lib.Dec.{ltb, leb}
-use lib.IntN.{ℤ}
+use lib.IntN.{ℤ, pos, negsuc, sucℤ}
+use lib.Signed.{shrZ}
+use borrow.Author.Tests.{lt-ltb}
 use Rattle.manual.specs.declared.Mode.{Mode}
-use Rattle.manual.specs.Emac.{roundsUp, nearest, rounded, readWith}
+use Rattle.manual.specs.Word.{modZ, inHalf, negative}
+use Rattle.manual.specs.Emac.{roundsUp, nearest, rounded, valueOf, readAcc}
 use Rattle.word.specs.RaisedLaws.{Up, higher, up-negative, out-half}
-use Rattle.emac.specs.Parts.{IsRounded, IsClamped}
+use Rattle.emac.specs.Parts.{clamped, IsRounded, IsClamped}
+use Rattle.emac.specs.BoolLaws.{by-bool}
 use Rattle.emac.specs.NumberLaws.{floor24, mod24, odd24, floor8, mod8, odd8, mod16, mod32}
 use Rattle.emac.specs.RoundLaws.{round-up, round-down}
 
@@ -67,23 +71,64 @@ module _ (omc below : Bool) (q : ℕ) where
   pub clamp31-in : (omc && out31) ≡ false → IsClamped omc below (2 ^ 31) q (q % 0x1_0000_0000)
   clamp31-in e = record { value = λ z u. rw (out-half (2 ^ 52) (2 ^ 31) z q (omega arith) u, e, mod32 z q u) }
 
--- ---- by the modes; r is z raised
+-- ---- a rounded number that is out of range has the sign of what was rounded
 
-module _ (k : Mode) (a r v : ℕ) (z : ℤ) (u : Up (2 ^ 52) z r) where
+after : (H a : ℕ) → 0 < H → not (inHalf H (sucℤ (negsuc a))) ≡ true → negative (sucℤ (negsuc a)) ≡ true
+after H zero h e = rw (lt-ltb 0 H h) at e
+after H (suc a) h e = refl
+
+side : (rt : Bool) (z : ℤ) (m H : ℕ) → 0 < H → not (inHalf H (rounded rt z m)) ≡ true → negative (rounded rt z m) ≡ negative z
+side rt (pos n) m H h e = go rt (roundsUp m (modZ (pos n) m) (modZ (shrZ (pos n) m) 2))
+  where
+    go : (b c : Bool) → negative (cond b (cond c (sucℤ (pos (n / m))) (pos (n / m))) (pos (n / m))) ≡ false
+    go true true = refl
+    go true false = refl
+    go false c = refl
+side rt (negsuc n) m H h e = go rt (roundsUp m (modZ (negsuc n) m) (modZ (shrZ (negsuc n) m) 2)) e
+  where
+    go : (b c : Bool) → let q : ℤ = cond b (cond c (sucℤ (negsuc (n / m))) (negsuc (n / m))) (negsuc (n / m)) in not (inHalf H q) ≡ true → negative q ≡ true
+    go true true f = after H (n / m) h f
+    go true false f = refl
+    go false c f = refl
+
+clamped-rounded : (omc rt : Bool) (z : ℤ) (m H : ℕ) → 0 < H → let q : ℤ = rounded rt z m in clamped omc H (negative z) q ≡ clamped omc H (negative q) q
+clamped-rounded omc rt z m H h = by-bool (not (inHalf H (rounded rt z m)))
+    (λ e. rw (side rt z m H h e))
+    (λ e. rw (e, and-false omc))
+
+-- ---- by the modes; r is the accumulator's number raised
+
+module _ (k : Mode) (a r v : ℕ) (u : Up (2 ^ 52) (valueOf k a) r) where
+  abbrev z : ℤ
+  z = valueOf k a
+
+  clamped-is : (omc rt : Bool) (m H q : ℕ) → 0 < H → IsRounded rt m r q → IsClamped omc (ltb r 0x10_0000_0000_0000) H q v
+      → let w : ℤ = rounded rt z m in v ≡ modZ (clamped omc H (negative w) w) (H + H)
+  clamped-is omc rt m H q h hq hv =
+      let w : ℤ = rounded rt z m in
+      hv .value w (hq .value z u)
+      ∙ ap (λ (b : Bool). modZ (clamped omc H b w) (H + H)) (sym (up-negative (2 ^ 52) z r u))
+      ∙ ap (λ (t : ℤ). modZ t (H + H)) (clamped-rounded omc rt z m H h)
+
   pub word : k .fi ≡ true → k .su ≡ true → (q : ℕ) → IsRounded true (2 ^ 24) r q → IsClamped (k .omc) (ltb r 0x10_0000_0000_0000) (2 ^ 15) q v
-      → v ≡ readWith k a z
-  word f s q hq hv = rw (f, s, up-negative (2 ^ 52) z r u) (hv .value (nearest z (2 ^ 24)) (hq .value z u))
+      → v ≡ readAcc k a
+  unfolding readAcc
+  word f s q hq hv = rw (f, s) (rw f at (clamped-is (k .omc) true (2 ^ 24) (2 ^ 15) q (omega arith) hq hv))
 
   pub long : k .fi ≡ true → k .su ≡ false → (q : ℕ) → IsRounded (k .rt) (2 ^ 8) r q → IsClamped (k .omc) (ltb r 0x10_0000_0000_0000) (2 ^ 31) q v
-      → v ≡ readWith k a z
-  long f s q hq hv = rw (f, s, up-negative (2 ^ 52) z r u) (hv .value (rounded (k .rt) z (2 ^ 8)) (hq .value z u))
+      → v ≡ readAcc k a
+  unfolding readAcc
+  long f s q hq hv = rw (f, s) (rw f at (clamped-is (k .omc) (k .rt) (2 ^ 8) (2 ^ 31) q (omega arith) hq hv))
 
-  pub integer : k .fi ≡ false → k .su ≡ false → IsClamped (k .omc) (ltb r 0x10_0000_0000_0000) (2 ^ 31) r v → v ≡ readWith k a z
-  integer f s hv = rw (f, s, up-negative (2 ^ 52) z r u) (hv .value z u)
+  pub integer : k .fi ≡ false → k .su ≡ false → IsClamped (k .omc) (ltb r 0x10_0000_0000_0000) (2 ^ 31) r v → v ≡ readAcc k a
+  unfolding readAcc
+  integer f s hv = rw (f, s) (rw (← up-negative (2 ^ 52) z r u, f, s) at (hv .value z u))
 
-module _ (k : Mode) (a : ℕ) (z : ℤ) (f : k .fi ≡ false) (s : k .su ≡ true) where
-  pub too-large : (k .omc && not (ltb a 0x1_0000_0000)) ≡ true → 0xFFFF_FFFF ≡ readWith k a z
+module _ (k : Mode) (a : ℕ) (f : k .fi ≡ false) (s : k .su ≡ true) where
+  pub too-large : (k .omc && not (ltb (a % 2 ^ 48) 0x1_0000_0000)) ≡ true → 0xFFFF_FFFF ≡ readAcc k a
+  unfolding readAcc
   too-large e = rw (f, s, e)
 
-  pub as-it-is : (k .omc && not (ltb a 0x1_0000_0000)) ≡ false → a % 0x1_0000_0000 ≡ readWith k a z
+  pub as-it-is : (k .omc && not (ltb (a % 2 ^ 48) 0x1_0000_0000)) ≡ false → a % 2 ^ 48 % 0x1_0000_0000 ≡ readAcc k a
+  unfolding readAcc
   as-it-is e = rw (f, s, e)

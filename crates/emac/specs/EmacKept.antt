@@ -11,11 +11,11 @@ use lib.IntN.{ℤ, pos, negsuc}
 use borrow.Author.Tests.{ltb-true, lt-ltb}
 use Rattle.manual.specs.declared.Mode.{Mode}
 use Rattle.manual.specs.declared.Emac.{Emac}
-use Rattle.manual.specs.Word.{modZ, negative}
-use Rattle.manual.specs.Emac.{has, modeOf, pav, accOf, withAcc, accPart, extPart, patternOf, turned, inRange, limit, settled, accumulate, setMacsr, loadedAs, moveTo, copyAcc, clearAcc, withExt, setExt, setMask}
+use Rattle.manual.specs.Word.{modZ}
+use Rattle.manual.specs.Emac.{fractional, modeOf, pav, accOf, withAcc, accPart, extPart, patternOf, reinterpreted, inRange, limit, staysAtLimit, withSum, accumulate, setMacsr, loadedAs, setAcc, copyAcc, clearAcc, withExt, setExt, setMask}
 use Rattle.manual.specs.Admitted.{pattern, emacAdmitted}
 use Rattle.emac.specs.BoolLaws.{and-left, and-right}
-use Rattle.emac.specs.FlagLaws.{Numbered, first, second, third, fourth, numbered, pav-below, flagged-below}
+use Rattle.emac.specs.FlagLaws.{Numbered, first, second, third, fourth, numbered, pav-below, with-flags-below}
 
 -- ---- what an admitted unit is: MACSR has twelve bits, and each accumulator is a pattern of 48
 
@@ -86,8 +86,8 @@ pub pattern-below : (fi : Bool) (acc ext : ℕ) → acc < 2 ^ 32 → ext < 2 ^ 1
 pattern-below true acc ext h k = omega arith
 pattern-below false acc ext h k = omega arith
 
-pub turned-below : (old new : Bool) (a : ℕ) → turned old new a < 2 ^ 48
-turned-below old new a = pattern-below new (accPart old a) (extPart old a) (acc-below old a) (ext-below old a)
+pub reinterpreted-below : (old new : Bool) (a : ℕ) → reinterpreted old new a < 2 ^ 48
+reinterpreted-below old new a = pattern-below new (accPart old a) (extPart old a) (acc-below old a) (ext-below old a)
 
 -- ---- lists
 
@@ -119,20 +119,20 @@ either-way : (b : Bool) (e f : Emac) → Admits e → Admits f → Admits (cond 
 either-way true e f h g = h
 either-way false e f h g = g
 
-settles : (k : Mode) (e : Emac) (i : ℕ) (over : Bool) (z : ℤ) → Admits e → Admits (settled k e i over z)
-unfolding settled
-settles k e i over z h =
-    with-acc e i _ _ h (flagged-below k (e .macsr) i _ _ (h .macsr))
-    (modZ-below (cond ((over || not (inRange k z)) && k .omc) (limit k (negative z)) z) (2 ^ 48) (omega arith))
+with-sum : (k : Mode) (e : Emac) (i : ℕ) (over below : Bool) (z : ℤ) → Admits e → Admits (withSum k e i over below z)
+unfolding withSum
+with-sum k e i over below z h =
+    with-acc e i _ _ h (with-flags-below k (e .macsr) i _ _ 12 (omega arith) (h .macsr))
+    (modZ-below (cond ((over || not (inRange k z)) && k .omc) (limit k below) z) (2 ^ 48) (omega arith))
 
 sets-macsr : (e : Emac) (v : ℕ) → Admits e → Admits (setMacsr e v)
 unfolding setMacsr accOf
 sets-macsr e v h =
-    let old = has (e .macsr) 5 in
-    let new = has (v % 0x1000) 5 in
+    let old = fractional (e .macsr) in
+    let new = fractional (v % 0x1000) in
     record {
       macsr = omega arith;
-      acc = λ k. map-below (turned old new) (2 ^ 48) (turned-below old new) (e .acc) (k % 4) (h .acc k);
+      acc = λ k. map-below (reinterpreted old new) (2 ^ 48) (reinterpreted-below old new) (e .acc) (k % 4) (h .acc k);
     }
 
 sets-mask : (e : Emac) (v : ℕ) → Admits e → Admits (setMask e v)
@@ -148,32 +148,32 @@ module _ (e : Emac) (h : emacAdmitted e ≡ true) where
   pub accumulate-kept : (i s : ℕ) (sub : Bool) (x y : ℕ) → emacAdmitted (accumulate e i s sub x y) ≡ true
   unfolding accumulate
   accumulate-kept i s sub x y =
-      admitted _ (either-way (modeOf (e .macsr) .omc && pav (e .macsr) i) e _ (admits e h) (settles (modeOf (e .macsr)) e i _ _ (admits e h)))
+      admitted _ (either-way (staysAtLimit (e .macsr) i) e _ (admits e h) (with-sum (modeOf (e .macsr)) e i _ _ _ (admits e h)))
 
   pub set-macsr-kept : (v : ℕ) → emacAdmitted (setMacsr e v) ≡ true
   set-macsr-kept v = admitted _ (sets-macsr e v (admits e h))
 
-  pub move-to-kept : (i v : ℕ) → emacAdmitted (moveTo e i v) ≡ true
-  unfolding moveTo
-  move-to-kept i v =
+  pub set-acc-kept : (i v : ℕ) → emacAdmitted (setAcc e i v) ≡ true
+  unfolding setAcc
+  set-acc-kept i v =
       let k = modeOf (e .macsr) in
       admitted _
-      (with-acc e i _ _ (admits e h) (flagged-below k (e .macsr) i false _ (macsr-small e h)) (modZ-below (loadedAs k v) (2 ^ 48) (omega arith)))
+      (with-acc e i _ _ (admits e h) (with-flags-below k (e .macsr) i false _ 12 (omega arith) (macsr-small e h)) (modZ-below (loadedAs k v) (2 ^ 48) (omega arith)))
 
   pub copy-acc-kept : (from to : ℕ) → emacAdmitted (copyAcc e from to) ≡ true
   unfolding copyAcc
   copy-acc-kept from to =
       admitted _
-      (with-acc e to _ _ (admits e h) (flagged-below (modeOf (e .macsr)) (e .macsr) to (pav (e .macsr) from) _ (macsr-small e h)) (acc-small e h from))
+      (with-acc e to _ _ (admits e h) (with-flags-below (modeOf (e .macsr)) (e .macsr) to (pav (e .macsr) from) _ 12 (omega arith) (macsr-small e h)) (acc-small e h from))
 
   pub clear-acc-kept : (i : ℕ) → emacAdmitted (clearAcc e i) ≡ true
   unfolding clearAcc
-  clear-acc-kept i = admitted _ (with-acc e i _ 0 (admits e h) (pav-below 1 (e .macsr) false (macsr-small e h) i) (omega arith))
+  clear-acc-kept i = admitted _ (with-acc e i _ 0 (admits e h) (pav-below (e .macsr) false 12 i (omega arith) (macsr-small e h)) (omega arith))
 
   pub set-ext-kept : (i v : ℕ) → emacAdmitted (setExt e i v) ≡ true
   unfolding setExt
   set-ext-kept i v =
-      let fi = has (e .macsr) 5 in
+      let fi = fractional (e .macsr) in
       admitted _ (with-ext fi _ (i + 1) (v % 2 ^ 16) (with-ext fi e i (v / 2 ^ 16 % 2 ^ 16) (admits e h) (omega arith)) (omega arith))
 
   pub set-mask-kept : (v : ℕ) → emacAdmitted (setMask e v) ≡ true

@@ -4,6 +4,7 @@ pub mod BoolLaws
 pub mod RoundLaws
 pub mod ProductLaws
 pub mod Sums
+pub mod Overflow
 pub mod MacLaws
 pub mod Parts
 pub mod NumberLaws

@@ -9,12 +9,13 @@ use lib.ListN.{getD, set}
 use lib.IntN.{ℤ, pos, negsuc}
 use Rattle.manual.specs.declared.Mode.{Mode}
 use Rattle.manual.specs.declared.Emac.{Emac}
-use Rattle.manual.specs.Word.{modZ}
-use Rattle.manual.specs.Emac.{modeOf, pav, productOf, scaled, scaleOf, valueOf, unsigned, limit, sumOf, accOf, withAcc, flagged, settled, accumulate}
+use Rattle.manual.specs.Word.{modZ, negative}
+use Rattle.manual.specs.Emac.{modeOf, pav, scaled, scaleOf, valueOf, unsigned, limit, accOf, withAcc, withFlags, withSum, accumulate}
 use Rattle.word.specs.RaisedLaws.{Up, plus, minus, up-negative, out-half, out-whole, signed-up}
-use Rattle.emac.specs.Sums.{IsValue, IsSum, IsOutside, IsStored, IsSettled, IsSummed}
+use Rattle.emac.specs.Sums.{IsValue, IsSum, IsOutside, IsStored, IsWithSum, IsSummed}
 use Rattle.emac.specs.declared.product.Raised.{Raised}
-use Rattle.emac.specs.Products.{raised, IsScaledProduct}
+use Rattle.emac.specs.Products.{farProduct, farSum, raised, IsScaledProduct}
+use Rattle.emac.specs.Overflow.{far-sum-is}
 use Rattle.emac.specs.ProductLaws.{raised-is, up-of}
 use Rattle.emac.specs.declared.sum.AfterSum.{AfterSum}
 
@@ -75,11 +76,11 @@ module _ (k : Mode) (s : ℕ) where
 
 -- ---- the parts put together: o, a, p, f and r are what the code finds
 
-pub settled-is : (k : Mode) (m i s : ℕ) (over o : Bool) (a : ℕ) (p : Bool) (f : ℕ)
-    → IsOutside k s o → IsStored k (over || o) s a → p ≡ pav m i → f ≡ flagged k m i ((over || o) || p) a
-    → IsSettled k m i over s (record { macsr = f; acc = a })
-unfolding settled
-settled-is k m i s over o a p f ho ha ep ef = record { value = λ z u e em. rw (em, ef, ep, ha .value z u, ho .value z u) }
+pub with-sum-is : (k : Mode) (m i s : ℕ) (over o : Bool) (a : ℕ) (p : Bool) (f : ℕ)
+    → IsOutside k s o → IsStored k (over || o) s a → p ≡ pav m i → f ≡ withFlags k m i ((over || o) || p) a
+    → IsWithSum k m i over s (record { macsr = f; acc = a })
+unfolding withSum
+with-sum-is k m i s over o a p f ho ha ep ef = record { value = λ z u e em. rw (em, ef, ep, ha .value z u, ho .value z u) }
 
 set-same : (l : List ℕ) (n : ℕ) → set l n (getD l n 0) ≡ l
 set-same [] n = refl
@@ -92,16 +93,18 @@ module _ (m a i s : ℕ) (sub : Bool) (x y : ℕ) (k : Mode) (h : Bool) (ek : k 
   stays t = record { value = λ e em ea. rw (em, ← ek, ← eh, t, ea, set-same (e .acc) (i % 4), ← em) }
 
   module _ (t : (k .omc && h) ≡ false) (p : Raised) (c q : ℕ) (r : AfterSum) (hp : IsScaledProduct k s x y p)
-      (hc : IsValue k a c) (hq : IsSum sub c (p .value) q) (hr : IsSettled k m i (p .over) q r) where
-    sum-up : Up (2 ^ 52) (sumOf k s sub x y a) q
-    sum-up = hq .value (valueOf k a) (scaled (scaleOf k s) (productOf k x y)) (hc .value) (hp .value)
+      (hc : IsValue k a c) (hq : IsSum sub c (p .value) q) (hr : IsWithSum k m i (p .over) q r) where
+    sum-up : Up (2 ^ 52) (farSum k s sub x y a) q
+    sum-up = hq .value (valueOf k a) (scaled (scaleOf k s) (farProduct k x y)) (hc .value) (hp .value)
 
     at-unit : (e : Emac) → e .macsr ≡ m → a ≡ accOf e i → withAcc i (r .macsr) (r .acc) e ≡ accumulate e i s sub x y
     unfolding accumulate
     at-unit e em ea =
         let fk : k ≡ modeOf (e .macsr) = ek ∙ ap modeOf (sym em) in
         let fh : h ≡ pav (e .macsr) i = eh ∙ ap (λ (n : ℕ). pav n i) (sym em) in
-        rw (← fk, ← fh, t, ← ea, ← hp .over) (hr .value (sumOf k s sub x y a) sum-up e em)
+        let f : ℤ = farSum k s sub x y a in
+        rw (← fk, ← fh, t, ← ea)
+        (hr .value f sum-up e em ∙ ap (λ (b : Bool). withSum k e i b (negative f) f) (hp .over) ∙ far-sum-is k e i s sub x y a c hc)
 
     pub sums : IsSummed m a i s sub x y r
     sums = record { value = at-unit }

@@ -1,22 +1,21 @@
 -- The product of two longs as the code finds it, in each mode, and the scale factor: what each way is, in plain numbers. Assumes nothing.
-use mathlib.Core.Path.{_≡_, refl, sym, ap, _∙_}
-use mathlib.Core.Bool.{Bool, true, false, cond, not, _&&_, _||_}
+use mathlib.Core.Path.{_≡_, refl, sym, ap}
+use mathlib.Core.Bool.{Bool, true, false, not, _&&_, _||_}
 use Prim.Native.Nat.{ℕ, suc, _+_, _-_, _*_, _/_, _%_, _^_, _≤_, _<_}
 use native.Mathlib.Nat.{mul-le-mul, le-of-lt, lt-of-le-of-lt, mul-le-mul-left, mul-lt-mul-of-pos-right}
 use native.Mathlib.Omega.{arith}
 use lib.Dec.{ltb, leb, lit<}
 use lib.IntN.{ℤ, pos, negsuc, _*ℤ_}
-use borrow.Author.Tests.{ltb-true, lt-ltb, le-ltb, le-leb, lt-leb, eq-eqb, ne-eqb, not-true}
+use borrow.Author.Tests.{lt-ltb, le-ltb, eq-eqb, ne-eqb}
 use Rattle.manual.specs.declared.Size.the-variants.{Long}
 use Rattle.manual.specs.declared.Mode.{Mode}
-use Rattle.manual.specs.Word.{signed, inHalf, negative}
-use Rattle.manual.specs.Emac.{fraction, signedProduct, unsignedProduct, productOf, productOver, scaled, scaleOf, roundsUp}
+use Rattle.manual.specs.Word.{signed, inHalf}
+use Rattle.manual.specs.Emac.{productOver, scaled, scaleOf, roundsUp}
 use Rattle.word.specs.SignedLaws.{signed-pos, signed-neg}
 use Rattle.word.specs.WordLaws.{cut-small}
 use Rattle.word.specs.RaisedLaws.{Up, higher, plus, up-neg, up-negative, out-half, signed-up}
-use Rattle.emac.specs.Products.{raised, raisedProduct, IsFraction, IsNumber, IsScaled, IsScaledProduct}
+use Rattle.emac.specs.Products.{fraction, beyond, signedProduct, unsignedProduct, farProduct, raised, raisedProduct, IsFraction, IsNumber, IsScaled, IsScaledProduct}
 use Rattle.emac.specs.declared.product.Raised.{Raised}
-use Rattle.emac.specs.BoolLaws.{by-bool, and-left, and-right}
 use Rattle.emac.specs.RoundLaws.{floor23, mod23, odd23, mod40, halved, round-up, round-down}
 
 -- ---- the numbers of two longs, by the signs; q is the product of the magnitudes
@@ -71,25 +70,20 @@ fractional-is rt z p f u h =
 -- ---- unsigned integers; n is the product
 
 module _ (omc : Bool) (n : ℕ) where
-  pub unsigned-fits : n < 2 ^ 40 → IsNumber (pos (unsignedProduct omc n)) (leb (2 ^ 40) n) (record { value = 0x10_0000_0000_0000 + n; over = false })
+  pub unsigned-fits : n < 2 ^ 40 → IsNumber (unsignedProduct omc n) (not (ltb n (2 ^ 40))) (record { value = 0x10_0000_0000_0000 + n; over = false })
   unsigned-fits h =
-      record { value = rw (lt-ltb n (2 ^ 40) h) refl; over = rw (lt-leb (2 ^ 40) n h) refl; low = omega arith; high = omega arith }
+      record { value = rw (lt-ltb n (2 ^ 40) h) (omega arith); over = rw (lt-ltb n (2 ^ 40) h) refl; low = omega arith; high = omega arith }
 
-  pub unsigned-over : 2 ^ 40 ≤ n → omc ≡ true → IsNumber (pos (unsignedProduct omc n)) (leb (2 ^ 40) n) (record { value = 0x14_0000_0000_0000; over = true })
+  pub unsigned-over : 2 ^ 40 ≤ n → omc ≡ true → IsNumber (unsignedProduct omc n) (not (ltb n (2 ^ 40))) (record { value = 0x14_0000_0000_0000; over = true })
   unsigned-over h t =
-      record { value = rw (t, le-ltb n (2 ^ 40) h) refl; over = rw (le-leb (2 ^ 40) n h) refl; low = omega arith; high = omega arith }
+      record { value = rw (t, le-ltb n (2 ^ 40) h) refl; over = rw (le-ltb n (2 ^ 40) h) refl; low = omega arith; high = omega arith }
 
   pub unsigned-wraps : 2 ^ 40 ≤ n → omc ≡ false
-      → IsNumber (pos (unsignedProduct omc n)) (leb (2 ^ 40) n) (record { value = 0x10_0000_0000_0000 + n % 0x100_0000_0000; over = true })
+      → IsNumber (unsignedProduct omc n) (not (ltb n (2 ^ 40))) (record { value = 0x10_0000_0000_0000 + n % 0x100_0000_0000; over = true })
   unsigned-wraps h t =
-      record { value = rw (t, le-ltb n (2 ^ 40) h) refl; over = rw (le-leb (2 ^ 40) n h) refl; low = omega arith; high = omega arith }
+      record { value = rw (t, le-ltb n (2 ^ 40) h) refl; over = rw (le-ltb n (2 ^ 40) h) refl; low = omega arith; high = omega arith }
 
 -- ---- signed integers; z is the product, and p is z raised by 2^62
-
--- a number of 40 bits, raised by less
-narrow : (z : ℤ) (p : ℕ) → Up (2 ^ 62) z p → inHalf (2 ^ 39) z ≡ true → Up (2 ^ 39) z ((p + 2 ^ 39) % 2 ^ 40)
-narrow (pos n) p u e = let h : n < 2 ^ 39 = ltb-true n (2 ^ 39) e in omega arith
-narrow (negsuc n) p u e = let h : n < 2 ^ 39 = ltb-true n (2 ^ 39) e in omega arith
 
 abbrev pub over40 : ℕ → Bool
 over40 p = ltb p 0x3FFF_FF80_0000_0000 || leb 0x4000_0080_0000_0000 p
@@ -98,22 +92,19 @@ module _ (omc : Bool) (z : ℤ) (p : ℕ) (u : Up (2 ^ 62) z p) where
   pub over-is : over40 p ≡ not (inHalf (2 ^ 39) z)
   over-is = sym (out-half (2 ^ 62) (2 ^ 39) z p (omega arith) u)
 
-  saturates : (over40 p && omc) ≡ true → signedProduct omc z ≡ cond (negative z) (negsuc (2 ^ 50)) (pos (2 ^ 50))
-  saturates e = rw (not-true (inHalf (2 ^ 39) z) (sym over-is ∙ and-left (over40 p) omc e), and-right (over40 p) omc e) refl
+  saturates : (over40 p && omc) ≡ true → signedProduct omc z ≡ beyond (ltb p (2 ^ 62))
+  saturates e = rw (← over-is, e, up-negative (2 ^ 62) z p u) refl
 
   wraps : (over40 p && omc) ≡ false → Up (2 ^ 39) (signedProduct omc z) ((p + 2 ^ 39) % 2 ^ 40)
-  wraps e = by-bool (inHalf (2 ^ 39) z)
-      (λ i. rw i (narrow z p u i))
-      (λ i. let o : over40 p ≡ true = over-is ∙ ap not i in
-      let f : omc ≡ false = ap (λ (t : Bool). t && omc) (sym o) ∙ e in
-      rw (i, f, mod40 z p u)
-      (signed-up (2 ^ 39) (2 ^ 39) (p % 2 ^ 40) ((p + 2 ^ 39) % 2 ^ 40) (λ h. omega arith) (λ h. omega arith) (omega arith)))
+  wraps e =
+      rw (← over-is, e, mod40 z p u)
+      (signed-up (2 ^ 39) (2 ^ 39) (p % 2 ^ 40) ((p + 2 ^ 39) % 2 ^ 40) (λ h. omega arith) (λ h. omega arith) (omega arith))
 
   pub signed-low : (over40 p && omc) ≡ true → p < 2 ^ 62
       → IsNumber (signedProduct omc z) (not (inHalf (2 ^ 39) z)) (record { value = 0xB_FFFF_FFFF_FFFF; over = over40 p })
   signed-low e h =
       record {
-        value = rw (saturates e, up-negative (2 ^ 62) z p u, lt-ltb p (2 ^ 62) h) refl;
+        value = rw (saturates e, lt-ltb p (2 ^ 62) h) refl;
         over = over-is;
         low = omega arith;
         high = omega arith;
@@ -123,7 +114,7 @@ module _ (omc : Bool) (z : ℤ) (p : ℕ) (u : Up (2 ^ 62) z p) where
       → IsNumber (signedProduct omc z) (not (inHalf (2 ^ 39) z)) (record { value = 0x14_0000_0000_0000; over = over40 p })
   signed-high e h =
       record {
-        value = rw (saturates e, up-negative (2 ^ 62) z p u, le-ltb p (2 ^ 62) h) refl;
+        value = rw (saturates e, le-ltb p (2 ^ 62) h) refl;
         over = over-is;
         low = omega arith;
         high = omega arith;
@@ -160,10 +151,10 @@ module _ (s v : ℕ) (low : 2 ^ 52 - 2 ^ 50 - 1 ≤ v) (high : v ≤ 2 ^ 52 + 2 
 -- ---- the parts put together: p, w and v are what the code finds
 
 pub scaled-is : (k : Mode) (s x y : ℕ) (p : Raised) (w v : ℕ)
-    → IsNumber (productOf k x y) (productOver k x y) p → w ≡ scaleOf k s → IsScaled w (p .value) v
+    → IsNumber (farProduct k x y) (productOver k x y) p → w ≡ scaleOf k s → IsScaled w (p .value) v
     → IsScaledProduct k s x y (record { value = v; over = p .over })
 scaled-is k s x y p w v hp ew hv =
-    record { value = rw (← ew) (hv .value (productOf k x y) (hp .value)); over = hp .over; low = hv .low; high = hv .high }
+    record { value = rw (← ew) (hv .value (farProduct k x y) (hp .value)); over = hp .over; low = hv .low; high = hv .high }
 
 -- ---- raised numbers as an equation
 
@@ -180,7 +171,7 @@ Told k s x y r = (r ≡ raisedProduct k s x y) × (2 ^ 51 - 2 ≤ r .value) × (
 
 module _ (k : Mode) (s x y : ℕ) (r : Raised) where
   abbrev product : ℤ
-  product = scaled (scaleOf k s) (productOf k x y)
+  product = scaled (scaleOf k s) (farProduct k x y)
 
   pub told : IsScaledProduct k s x y r → Told k s x y r
   unfolding raisedProduct

@@ -1,11 +1,12 @@
 -- What the parts of a sum ensure, where whole numbers are raised by 2^52. Assumes nothing.
 use mathlib.Core.Path.{_≡_}
-use mathlib.Core.Bool.{Bool, cond, not}
+use mathlib.Core.Bool.{Bool, cond, not, _&&_}
 use Prim.Native.Nat.{ℕ, _+_, _-_, _^_, _≤_, _<_}
 use lib.IntN.{ℤ, _+ℤ_, _-ℤ_}
 use Rattle.manual.specs.declared.Mode.{Mode}
 use Rattle.manual.specs.declared.Emac.{Emac}
-use Rattle.manual.specs.Emac.{valueOf, inRange, storedSum, accOf, withAcc, settled, accumulate}
+use Rattle.manual.specs.Word.{modZ, negative}
+use Rattle.manual.specs.Emac.{valueOf, inRange, limit, accOf, withAcc, withSum, accumulate}
 use Rattle.word.specs.RaisedLaws.{Up}
 use Rattle.emac.specs.declared.sum.AfterSum.{AfterSum}
 
@@ -23,10 +24,10 @@ pub record IsOutside (k : Mode) (s : ℕ) (r : Bool) : Type 0 where
   pub value : (z : ℤ) → Up (2 ^ 52) z s → r ≡ not (inRange k z)
 
 pub record IsStored (k : Mode) (out : Bool) (s r : ℕ) : Type 0 where
-  pub value : (z : ℤ) → Up (2 ^ 52) z s → r ≡ storedSum k out z
+  pub value : (z : ℤ) → Up (2 ^ 52) z s → r ≡ modZ (cond (out && k .omc) (limit k (negative z)) z) (2 ^ 48)
 
-pub record IsSettled (k : Mode) (m i : ℕ) (over : Bool) (s : ℕ) (r : AfterSum) : Type 0 where
-  pub value : (z : ℤ) → Up (2 ^ 52) z s → (e : Emac) → e .macsr ≡ m → withAcc i (r .macsr) (r .acc) e ≡ settled k e i over z
+pub record IsWithSum (k : Mode) (m i : ℕ) (over : Bool) (s : ℕ) (r : AfterSum) : Type 0 where
+  pub value : (z : ℤ) → Up (2 ^ 52) z s → (e : Emac) → e .macsr ≡ m → withAcc i (r .macsr) (r .acc) e ≡ withSum k e i over (negative z) z
 
 pub record IsSummed (m a i s : ℕ) (sub : Bool) (x y : ℕ) (r : AfterSum) : Type 0 where
   pub value : (e : Emac) → e .macsr ≡ m → a ≡ accOf e i → withAcc i (r .macsr) (r .acc) e ≡ accumulate e i s sub x y

@@ -1,15 +1,15 @@
 // The accumulators by number, their physical registers ACCn and ACCextn, and the moves to them.
-use super::flags::flagged;
 use super::flags::fractional;
 use super::flags::mode_of;
 use super::flags::pav;
+use super::flags::with_flags;
 use super::flags::with_pav;
 use manual::Emac;
 use manual::Mode;
 ghost use mathlib.Core.Path.{_≡_};
 ghost use Prim.Native.Nat.{_+_, _*_, _/_, _%_, _^_, _<_};
 ghost use Rattle.manual.specs.Word.{modZ};
-ghost use Rattle.manual.specs.Emac.{accOf, withAcc, accPart, extPart, patternOf, turned as turnedOf, setMacsr, loadedAs, moveTo, copyAcc, clearAcc, readExt, withExt, setExt, setMask};
+ghost use Rattle.manual.specs.Emac.{accOf, withAcc, accPart, extPart, patternOf, reinterpreted as reinterpretedOf, setMacsr, loadedAs, setAcc, copyAcc, clearAcc, readExt, withExt, setExt, setMask};
 
 // Accumulator i's pattern, i modulo 4.
 pub fn acc_of(e: Emac, i: u32) -> u64
@@ -65,8 +65,8 @@ pub fn pattern_of(fi: bool, acc: u32, ext: u32) -> u64
     }
 }
 
-fn turned(old: bool, new: bool, a: u64) -> u64
-    ensures { λ r. ⌜ r ≡ turnedOf old new a ⌝ }
+fn reinterpreted(old: bool, new: bool, a: u64) -> u64
+    ensures { λ r. ⌜ r ≡ reinterpretedOf old new a ⌝ }
 {
     pattern_of(new, acc_part(old, a), ext_part(old, a))
 }
@@ -80,10 +80,10 @@ pub fn set_macsr(e: Emac, v: u32) -> Emac
     let new = fractional(n);
     let a = e.acc;
     let b = [
-        turned(old, new, a[0]),
-        turned(old, new, a[1]),
-        turned(old, new, a[2]),
-        turned(old, new, a[3]),
+        reinterpreted(old, new, a[0]),
+        reinterpreted(old, new, a[1]),
+        reinterpreted(old, new, a[2]),
+        reinterpreted(old, new, a[3]),
     ];
     Emac {
         macsr: n,
@@ -113,13 +113,13 @@ fn loaded(k: Mode, v: u32) -> u64
 }
 
 // The unit with a long moved to accumulator i.
-pub fn move_to(e: Emac, i: u32, v: u32) -> Emac
-    ensures { λ r. ⌜ r ≡ moveTo e i v ⌝ }
+pub fn set_acc(e: Emac, i: u32, v: u32) -> Emac
+    ensures { λ r. ⌜ r ≡ setAcc e i v ⌝ }
 {
     let m = e.macsr;
     let k = mode_of(m);
     let a = loaded(k, v);
-    with_acc(e, i, flagged(k, m, i, false, a), a)
+    with_acc(e, i, with_flags(k, m, i, false, a), a)
 }
 
 // The unit with an accumulator copied to another, its PAV too.
@@ -129,7 +129,7 @@ pub fn copy_acc(e: Emac, from: u32, to: u32) -> Emac
     let m = e.macsr;
     let a = acc_of(e, from);
     let over = pav(m, from);
-    with_acc(e, to, flagged(mode_of(m), m, to, over, a), a)
+    with_acc(e, to, with_flags(mode_of(m), m, to, over, a), a)
 }
 
 // The unit with accumulator i and its PAV cleared.

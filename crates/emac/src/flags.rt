@@ -4,11 +4,11 @@ ghost use mathlib.Core.Path.{_≡_};
 ghost use Prim.Native.Nat.{_+_, _*_, _^_, _≤_, _<_};
 ghost use lib.Dec.{eqb, leb};
 ghost use Rattle.manual.specs.Word.{bit};
-ghost use Rattle.manual.specs.Emac.{has, modeOf, pav as pavOf, withPav, extensionInUse, flagged as flaggedOf};
+ghost use Rattle.manual.specs.Emac.{fractional as fractionalOf, modeOf, pav as pavOf, withPav, extensionInUse, withFlags as withFlagsOf};
 
 // Whether FI of MACSR is set.
 pub fn fractional(macsr: u32) -> bool
-    ensures { λ r. ⌜ r ≡ has macsr 5 ⌝ }
+    ensures { λ r. ⌜ r ≡ fractionalOf macsr ⌝ }
 {
     macsr / 0x20 % 2 == 1
 }
@@ -74,8 +74,8 @@ fn low_flags(k: Mode, over: bool, a: u64) -> u32
 }
 
 // MACSR after accumulator i was given a pattern.
-pub fn flagged(k: Mode, macsr: u32, i: u32, over: bool, a: u64) -> u32
-    ensures { λ r. ⌜ r ≡ flaggedOf k macsr i over a ⌝ }
+pub fn with_flags(k: Mode, macsr: u32, i: u32, over: bool, a: u64) -> u32
+    ensures { λ r. ⌜ r ≡ withFlagsOf k macsr i over a ⌝ }
 {
     with_pav(macsr / 16 * 16, i, over) + low_flags(k, over, a)
 }

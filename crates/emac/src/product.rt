@@ -1,16 +1,17 @@
-// The product of two longs, and the scale factor. A signed number z is computed as z + 2^52, which is not negative.
+// The product of two longs, and the scale factor. A signed number z is computed as z + 2^52, which is not negative. With OMC a
+// product that overflows becomes one that is beyond any accumulator, so that the sum is out of range on its side.
 use manual::Mode;
 use word::word::plus;
 ghost use mathlib.Core.Path.{_≡_};
 ghost use mathlib.Core.Bool.{true, false, not};
 ghost use Prim.Native.Nat.{_+_, _-_, _*_, _%_, _^_, _<_, _≤_};
-ghost use lib.Dec.{leb};
-ghost use lib.IntN.{pos, _*ℤ_};
+ghost use lib.Dec.{ltb};
+ghost use lib.IntN.{_*ℤ_};
 ghost use Rattle.manual.specs.declared.Size.the-variants.{Long};
 ghost use Rattle.manual.specs.Word.{signed, inHalf};
-ghost use Rattle.manual.specs.Emac.{roundsUp, fraction as fractionOf, signedProduct, unsignedProduct, productOf, productOver, scaleOf};
+ghost use Rattle.manual.specs.Emac.{roundsUp, productOver, scaleOf};
 ghost use Rattle.word.specs.RaisedLaws.{Up};
-ghost use Rattle.emac.specs.Products.{IsFraction, raisedProduct, IsNumber, IsScaled};
+ghost use Rattle.emac.specs.Products.{fraction as fractionOf, signedProduct, unsignedProduct, farProduct, IsFraction, raisedProduct, IsNumber, IsScaled};
 
 // A number raised by 2^52, and whether it overflowed.
 pub struct Raised {
@@ -71,7 +72,7 @@ fn fractional_product(rt: bool, x: u32, y: u32) -> Raised
 }
 
 fn unsigned_product(omc: bool, x: u32, y: u32) -> Raised
-    ensures { λ r. ⌜ IsNumber (pos (unsignedProduct omc (x * y))) (leb (2 ^ 40) (x * y)) r ⌝ }
+    ensures { λ r. ⌜ IsNumber (unsignedProduct omc (x * y)) (not (ltb (x * y) (2 ^ 40))) r ⌝ }
 {
     let n = (x as u64) * (y as u64);
     if n < 0x100_0000_0000 {
@@ -116,7 +117,7 @@ fn signed_product(omc: bool, x: u32, y: u32) -> Raised
 }
 
 fn mac_product(k: Mode, x: u32, y: u32) -> Raised
-    ensures { λ r. ⌜ IsNumber (productOf k x y) (productOver k x y) r ⌝ }
+    ensures { λ r. ⌜ IsNumber (farProduct k x y) (productOver k x y) r ⌝ }
 {
     if k.fi {
         return fractional_product(k.rt, x, y);

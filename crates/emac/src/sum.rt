@@ -1,7 +1,7 @@
 // MAC and MSAC: a product is added to an accumulator's number or taken from it. Numbers are raised by 2^52.
-use super::flags::flagged;
 use super::flags::mode_of;
 use super::flags::pav;
+use super::flags::with_flags;
 use super::product::scaled_product;
 use manual::Emac;
 use manual::Mode;
@@ -10,7 +10,7 @@ ghost use Prim.Native.Nat.{_+_, _-_, _^_, _<_, _≤_};
 ghost use Rattle.manual.specs.Word.{modZ};
 ghost use Rattle.manual.specs.Emac.{valueOf, limit as limitOf, emacOf, accumulate as accumulateOf};
 ghost use Rattle.emac.specs.Products.{raised};
-ghost use Rattle.emac.specs.Sums.{IsSum, IsOutside, IsStored, IsSettled, IsSummed};
+ghost use Rattle.emac.specs.Sums.{IsSum, IsOutside, IsStored, IsWithSum, IsSummed};
 
 // The number that a pattern's 48 bits stand for in a mode, raised by 2^52.
 pub fn value_of(k: Mode, a: u64) -> u64
@@ -81,12 +81,12 @@ struct AfterSum {
     acc: u64,
 }
 
-fn settled(k: Mode, m: u32, i: u32, over: bool, s: u64) -> AfterSum
-    ensures { λ r. ⌜ IsSettled k m i over s r ⌝ }
+fn with_sum(k: Mode, m: u32, i: u32, over: bool, s: u64) -> AfterSum
+    ensures { λ r. ⌜ IsWithSum k m i over s r ⌝ }
 {
     let out = over | outside(k, s);
     let a = stored(k, out, s);
-    let f = flagged(k, m, i, out | pav(m, i), a);
+    let f = with_flags(k, m, i, out | pav(m, i), a);
     AfterSum { macsr: f, acc: a }
 }
 
@@ -101,7 +101,7 @@ fn summed(m: u32, a: u64, i: u32, scale: u32, sub: bool, x: u32, y: u32) -> Afte
     }
     let p = scaled_product(k, scale, x, y);
     let c = value_of(k, a);
-    settled(k, m, i, p.over, sum(sub, c, p.value))
+    with_sum(k, m, i, p.over, sum(sub, c, p.value))
 }
 
 // The same of fractions, neither rounded nor saturated: the mode is written out for the compiler.
@@ -126,7 +126,7 @@ fn summed_fraction(m: u32, a: u64, i: u32, scale: u32, sub: bool, x: u32, y: u32
     };
     let p = scaled_product(f, scale, x, y);
     let c = value_of(f, a);
-    settled(f, m, i, p.over, sum(sub, c, p.value))
+    with_sum(f, m, i, p.over, sum(sub, c, p.value))
 }
 
 // MAC, and MSAC where `sub`, of a unit in parts: x times y, scaled, to accumulator i, in place. MACSR after it.

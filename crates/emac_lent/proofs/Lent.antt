@@ -38,9 +38,9 @@ use Rattle.manual.proofs.Emac as T
 use Rattle.manual.proofs.Emac.Laws as T′
 use Rattle.manual.proofs.Reply as R
 use Rattle.manual.proofs.Reply.Laws as R′
-use Rattle.emac_lent.specs.declared.unit.EmacAnswer.{EmacAnswer}
-use Rattle.emac_lent.proofs.unit.EmacAnswer as U
-use Rattle.emac_lent.proofs.unit.EmacAnswer.Laws as U′
+use Rattle.manual.specs.declared.EmacAnswer.{EmacAnswer}
+use Rattle.manual.proofs.EmacAnswer as U
+use Rattle.manual.proofs.EmacAnswer.Laws as U′
 
 -- the machine values of a unit, a reply and an answer, and the type of a reference to a unit
 abbrev pub mach : Emac → Val

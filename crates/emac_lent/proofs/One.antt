@@ -34,10 +34,10 @@ use Rattle.manual.proofs.Emac as T
 use Rattle.manual.proofs.Emac.Laws as T′
 use Rattle.manual.proofs.Reply as R
 use Rattle.manual.proofs.Reply.Laws as R′
-use Rattle.emac_lent.specs.declared.unit.EmacAnswer.{EmacAnswer}
-use Rattle.emac_lent.specs.UnitCalls.{answer}
-use Rattle.emac_lent.proofs.unit.EmacAnswer as U
-use Rattle.emac_lent.proofs.unit.EmacAnswer.Laws as U′
+use Rattle.manual.specs.declared.EmacAnswer.{EmacAnswer}
+use Rattle.manual.specs.UnitCalls.{answer}
+use Rattle.manual.proofs.EmacAnswer as U
+use Rattle.manual.proofs.EmacAnswer.Laws as U′
 use Rattle.emac_lent.proofs.Lent.{mach, said, number, replied, ref, changes, changed}
 
 -- the call, and the function by value that it calls

@@ -1,2 +1,1 @@
-pub mod UnitCalls
 pub mod UnitKept

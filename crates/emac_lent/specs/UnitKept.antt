@@ -4,11 +4,11 @@ use mathlib.Core.Bool.{Bool, true, false, cond}
 use Prim.Native.Nat.{ℕ}
 use lib.Dec.{ltb}
 use Rattle.manual.specs.declared.Emac.{Emac}
-use Rattle.manual.specs.Emac.{accumulate, setMacsr, moveTo, clearAcc}
+use Rattle.manual.specs.Emac.{accumulate, setAcc, clearAcc}
 use Rattle.manual.specs.Admitted.{emacAdmitted}
-use Rattle.emac.specs.EmacKept.{accumulate-kept, set-macsr-kept, move-to-kept, clear-acc-kept}
-use Rattle.emac_lent.specs.declared.unit.EmacAnswer.{EmacAnswer}
-use Rattle.emac_lent.specs.UnitCalls.{changed, accChanged, accumulateCall, setMacsrCall, moveToCall, clearAccCall}
+use Rattle.emac.specs.EmacKept.{accumulate-kept, set-macsr-kept, set-acc-kept, clear-acc-kept}
+use Rattle.manual.specs.declared.EmacAnswer.{EmacAnswer}
+use Rattle.manual.specs.UnitCalls.{accChanged, accumulateCall, setMacsrCall, setAccCall, clearAccCall}
 
 either : (b : Bool) (x y : EmacAnswer) → emacAdmitted (x .emac) ≡ true → emacAdmitted (y .emac) ≡ true → emacAdmitted (cond b x y .emac) ≡ true
 either true x y p q = p
@@ -26,9 +26,9 @@ module _ (e : Emac) (h : emacAdmitted e ≡ true) where
   unfolding setMacsrCall
   set-macsr-call-kept v = either (emacAdmitted e) _ _ (set-macsr-kept e h v) h
 
-  pub move-to-call-kept : (i v : ℕ) → emacAdmitted (moveToCall e i v .emac) ≡ true
-  unfolding moveToCall
-  move-to-call-kept i v = kept i (moveTo e i v) (move-to-kept e h i v)
+  pub set-acc-call-kept : (i v : ℕ) → emacAdmitted (setAccCall e i v .emac) ≡ true
+  unfolding setAccCall
+  set-acc-call-kept i v = kept i (setAcc e i v) (set-acc-kept e h i v)
 
   pub clear-acc-call-kept : (i : ℕ) → emacAdmitted (clearAccCall e i .emac) ≡ true
   unfolding clearAccCall

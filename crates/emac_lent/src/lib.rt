@@ -4,7 +4,7 @@ pub mod unit;
 use manual::Emac;
 use manual::Reply;
 ghost use mathlib.Core.Path.{_≡_};
-ghost use Rattle.emac_lent.specs.UnitCalls.{answer, accumulateCall, setMacsrCall, moveToCall, clearAccCall};
+ghost use Rattle.manual.specs.UnitCalls.{answer, accumulateCall, setMacsrCall, setAccCall, clearAccCall};
 
 // MAC, and MSAC where `sub`, on a lent unit; refused with 2, or 6 above number 3.
 pub fn accumulate(e: &mut Emac, i: u32, scale: u32, sub: bool, x: u32, y: u32) -> Reply
@@ -27,11 +27,11 @@ pub fn set_macsr(e: &mut Emac, v: u32) -> Reply
 }
 
 // An accumulator of a lent unit set; refused with 2, or 6 above number 3.
-pub fn move_to(e: &mut Emac, i: u32, v: u32) -> Reply
-    ensures { λ r. ⌜ answer r (now (e .exit)) ≡ moveToCall (now (e .entry)) i v ⌝ }
+pub fn set_acc(e: &mut Emac, i: u32, v: u32) -> Reply
+    ensures { λ r. ⌜ answer r (now (e .exit)) ≡ setAccCall (now (e .entry)) i v ⌝ }
 {
     let held = *e;
-    let a = unit::move_to(held, i, v);
+    let a = unit::set_acc(held, i, v);
     *e = a.emac;
     a.reply
 }

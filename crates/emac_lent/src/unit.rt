@@ -2,18 +2,13 @@
 use emac::accumulators;
 use emac::sum;
 use manual::Emac;
+use manual::EmacAnswer;
 use manual::Reply;
 use state::status::emac_admitted;
 ghost use mathlib.Core.Path.{_≡_};
-ghost use Rattle.emac_lent.specs.UnitCalls.{answer, accumulateCall, setMacsrCall, moveToCall, clearAccCall};
+ghost use Rattle.manual.specs.UnitCalls.{answer, accumulateCall, setMacsrCall, setAccCall, clearAccCall};
 
 const ACCUMULATORS: u32 = 4;
-
-// What a call on the unit answers: the reply and the unit.
-pub struct EmacAnswer {
-    pub reply: Reply,
-    pub emac: Emac,
-}
 
 // The unit as it was.
 fn refused(e: Emac, reply: Reply) -> EmacAnswer
@@ -49,16 +44,16 @@ pub fn set_macsr(e: Emac, v: u32) -> EmacAnswer
     if !emac_admitted(e) {
         return refused(e, Reply::NotAdmitted);
     }
-    let turned = accumulators::set_macsr(e, v);
+    let written = accumulators::set_macsr(e, v);
     EmacAnswer {
         reply: Reply::Done,
-        emac: turned,
+        emac: written,
     }
 }
 
 // MOVE.L to an accumulator.
-pub fn move_to(e: Emac, i: u32, v: u32) -> EmacAnswer
-    ensures { λ r. ⌜ r ≡ moveToCall e i v ⌝ }
+pub fn set_acc(e: Emac, i: u32, v: u32) -> EmacAnswer
+    ensures { λ r. ⌜ r ≡ setAccCall e i v ⌝ }
 {
     if !emac_admitted(e) {
         return refused(e, Reply::NotAdmitted);
@@ -66,7 +61,7 @@ pub fn move_to(e: Emac, i: u32, v: u32) -> EmacAnswer
     if ACCUMULATORS <= i {
         return refused(e, Reply::OutOfRange);
     }
-    let moved = accumulators::move_to(e, i, v);
+    let moved = accumulators::set_acc(e, i, v);
     EmacAnswer {
         reply: Reply::Done,
         emac: moved,

@@ -13,9 +13,8 @@ use Rattle.manual.specs.Memory.{Storage}
 use Rattle.manual.specs.Lent.{Lent}
 use Rattle.manual.specs.Block.{readBlock, storeBlock}
 use Rattle.instructions.specs.Run.{runOutcome, run}
-use Rattle.harness.specs.Calls.{called, opened}
+use Rattle.instructions.specs.HostCalls.{called, opened, runOn}
 use Rattle.harness.specs.CallLaws.{told, reply-is}
-use Rattle.harness.specs.StepCalls.{runOn}
 
 positive : (k : ℕ) (y z : List ℕ) → cond (ltb 0 k) y z ≡ cond (eqb k 0) z y
 positive zero y z = refl

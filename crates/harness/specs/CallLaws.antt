@@ -14,7 +14,7 @@ use Rattle.manual.specs.Reply.{Outcome, outcome, numberOf, isDone}
 use Rattle.manual.specs.Memory.{Storage}
 use Rattle.manual.specs.Lent.{Lent, orElse, lentRefusal}
 use Rattle.manual.specs.Block.{readBlock, storeBlock}
-use Rattle.harness.specs.Calls.{called, blockReply, opened, onBlock, settled}
+use Rattle.instructions.specs.HostCalls.{called, blockReply, opened, onBlock, blockAfter}
 
 -- a reply that is 2 is not done, and what is lent is refused by another
 two-refused : (n : Reply) → eqb (numberOf n) 2 ≡ true → isDone n ≡ false
@@ -47,7 +47,7 @@ module _ (b : List ℕ) (l : Lent) (x : Answer) (d : Bool) (found : x ≡ opened
 
   pub made-is : (w : ℕ) (call : Cpu → Outcome) (s : Stepped) (m′ : Storage) (e : Bool) (b′ : List ℕ) (n : ℕ) → d ≡ true → outcome s m′ ≡ call (x .cpu) → e ≡ isDone (s .reply)
       → b′ ≡ cond e (storeBlock (s .cpu) b .bytes) b → n ≡ numberOf (s .reply) + w * s .vector → called n b′ m′ ≡ onBlock w (readBlock b) (call (readBlock b .cpu)) b l
-  unfolding onBlock settled
+  unfolding onBlock blockAfter
   made-is w call s m′ e b′ n read made done stored number =
       let o : outcome s m′ ≡ call (readBlock b .cpu) = made ∙ ap (λ (a : Answer). call (a .cpu)) found in
       rw (told true read, ← o, number, stored, done)

@@ -18,7 +18,7 @@ ghost use Rattle.manual.specs.declared.Level.the-variants.{Kept, To};
 ghost use Rattle.manual.specs.Reply.{outcome};
 ghost use Rattle.manual.specs.Lent.{lent};
 ghost use Rattle.manual.specs.Block.{readBlock, storeBlock};
-ghost use Rattle.harness.specs.Calls.{called, blockReply, opened as openedOf, onBlock, exceptionOn, interruptOn, rteOn};
+ghost use Rattle.instructions.specs.HostCalls.{called, blockReply, opened as openedOf, onBlock, exceptionOn, interruptOn, rteOn};
 ghost use Rattle.harness.specs.Made.{made as madeOf};
 
 // A block that says no admitted state is refused after what is lent.
@@ -47,7 +47,7 @@ pub fn opened(block: &[u8], mem: &[u8]) -> Answer
 }
 
 // The new state goes into the block where something was done.
-pub fn settle(done: bool, cpu: Cpu, block: &mut [u8])
+pub fn store_after(done: bool, cpu: Cpu, block: &mut [u8])
     ensures { λ _. ⌜ now (block .exit) ≡ cond done (storeBlock cpu (now (block .entry)) .bytes) (now (block .entry)) ⌝ }
 {
     if done {
@@ -84,7 +84,7 @@ fn on_block(block: &mut [u8], mem: &mut [u8], call: Call) -> u32
     let stepped = made(call, given, mem);
     let reply = stepped.reply;
     let last = stepped.cpu;
-    settle(is_done(reply), last, block);
+    store_after(is_done(reply), last, block);
     number_of(reply)
 }
 

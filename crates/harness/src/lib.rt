@@ -6,7 +6,7 @@ use calls::exception_at as exception_at_call;
 use calls::interrupt as interrupt_call;
 use calls::opened;
 use calls::rte as rte_call;
-use calls::settle;
+use calls::store_after;
 use machine::run::run as run_call;
 use machine::run::step as step_call;
 use state::replies::is_done;
@@ -14,8 +14,7 @@ use state::replies::number_of;
 ghost use mathlib.Core.Path.{_≡_};
 ghost use Rattle.manual.specs.declared.Level.the-variants.{Kept, To};
 ghost use Rattle.manual.specs.Lent.{lent};
-ghost use Rattle.harness.specs.Calls.{called, exceptionOn, interruptOn, rteOn};
-ghost use Rattle.harness.specs.StepCalls.{stepOn, runOn};
+ghost use Rattle.instructions.specs.HostCalls.{called, exceptionOn, interruptOn, rteOn, stepOn, runOn};
 
 // One step: the number of the reply, and 256 times the vector that was entered.
 #[no_mangle]
@@ -31,7 +30,7 @@ pub extern "C" fn step(block: &mut [u8], mem: &mut [u8]) -> u32
     let stepped = step_call(given, mem);
     let reply = stepped.reply;
     let last = stepped.cpu;
-    settle(is_done(reply), last, block);
+    store_after(is_done(reply), last, block);
     number_of(reply) + 256 * stepped.vector as u32
 }
 
@@ -49,7 +48,7 @@ pub extern "C" fn run(block: &mut [u8], mem: &mut [u8], budget: u32) -> u64
     let ran = run_call(given, mem, budget);
     let reply = ran.reply;
     let last = ran.cpu;
-    settle(0 < ran.count, last, block);
+    store_after(0 < ran.count, last, block);
     number_of(reply) as u64 + 256 * ran.count as u64
 }
 

@@ -11,7 +11,7 @@ use Rattle.manual.specs.Lent.{lent}
 use Rattle.manual.specs.Image.{Printed, image, loadImage, answerLine, runText, textOf}
 use Rattle.manual.specs.Memory.{Storage}
 use Rattle.instructions.specs.Run.{runOutcome, run}
-use Rattle.image.specs.ImageRun.{imageRan, imageRun, ranText}
+use Rattle.instructions.specs.ImageRun.{imageRan, imageRun, ranText}
 
 pub refused-is : (f : List ℕ) (m m′ : Storage) (n : Reply) (b : ℕ) (s : Cpu) (t : Printed)
     → image n b s m′ ≡ loadImage f m → isDone n ≡ false → t ≡ textOf (answerLine n) → imageRan t m′ ≡ imageRun f m

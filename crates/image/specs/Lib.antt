@@ -1,3 +1,2 @@
 pub mod Texts
-pub mod ImageRun
 pub mod TextLaws

@@ -11,7 +11,7 @@ use Rattle.manual.specs.Lent.{lent}
 use Rattle.manual.specs.Image.{Image, Printed, printed, loadImage, answerLine, textOf}
 use Rattle.manual.specs.Memory.{Storage}
 use Rattle.instructions.specs.Run.{RunOutcome, run}
-use Rattle.image.specs.ImageRun.{ImageRan, imageRan, imageRun, ranText}
+use Rattle.instructions.specs.ImageRun.{ImageRan, imageRan, imageRun, ranText}
 
 text-in : (x b : List ℕ) (n : ℕ) → printed b n ≡ textOf x → n ≤ length b
 unfolding textOf

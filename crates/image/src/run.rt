@@ -7,7 +7,7 @@ use machine::run::run;
 use state::replies::is_done;
 ghost use mathlib.Core.Path.{_≡_};
 ghost use Rattle.manual.specs.Image.{printed};
-ghost use Rattle.image.specs.ImageRun.{imageRun, imageRan};
+ghost use Rattle.instructions.specs.ImageRun.{imageRun, imageRan};
 
 // The text of the run of an image file, or the first line alone where the file is refused.
 // `mem` has 49,152 bytes; whatever is in it, the file's bytes and zeros take its place.

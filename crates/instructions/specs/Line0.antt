@@ -1,111 +1,99 @@
--- Line 0: bit operations and immediates. The manual: BTST, BCHG, BCLR, BSET, BITREV, BYTEREV, FF1, ORI, ANDI, SUBI, ADDI, EORI, CMPI.
-use Prim.Native.Nat.{ℕ, _+_, _-_, _*_, _/_, _%_, _^_}
-use mathlib.Core.Bool.{Bool, true, false, cond, not}
-use mathlib.Core.List.{List, [], _∷_}
-use lib.Dec.{eqb, ltb}
-use lib.ListN.{getD}
-use Rattle.manual.specs.declared.Size.{Size}
-use Rattle.manual.specs.declared.Size.the-variants.{Byte, Word, Long}
-use Rattle.manual.specs.declared.Operand.the-variants.{Immediate}
-use Rattle.manual.specs.declared.Source.{Source}
-use Rattle.manual.specs.declared.Destination.{Destination}
-use Rattle.manual.specs.declared.Write.{Write}
-use Rattle.manual.specs.declared.Change.{Change}
-use lib.Count.{leadingZeros}
-use Rattle.manual.specs.declared.Logic.{Logic}
-use Rattle.manual.specs.declared.Logic.the-variants.{And, Or, Eor}
-use Rattle.manual.specs.declared.Sum.{Sum}
-use Rattle.manual.specs.Word.{plus}
-use Rattle.manual.specs.Bits.{logic, bitOf, changedBit, reversedBits, reversedBytes}
-use Rattle.manual.specs.Registers.{dataOf, noWrite, writeData}
-use Rattle.manual.specs.Flags.{moveCodes, keptCodes, sumCodes, compareCodes, testCodes, sumOrDifference, subtracted}
-use Rattle.manual.specs.Memory.{Memory, load}
-use Rattle.manual.specs.Address.{operand, extension, moved, locate, fetch, value, destination}
-use Rattle.manual.specs.Change.{done, reading, put, illegal, putTo}
-use Rattle.instructions.specs.Rows.{firstRow, placeIn}
+-- Line 0: bit operations and immediates.
+use Prim.Native.Nat.{ℕ, _%_}
+use mathlib.Core.{Bool.Bool, Bool.true, Bool.false, Bool.cond, Bool.not, List.List, List.[], List._∷_}
+use lib.{Dec.eqb, Count.leadingZeros}
+use Rattle.manual.specs.declared.{Size.Size, Size.the-variants.Byte, Size.the-variants.Word, Size.the-variants.Long, Operand.the-variants.Immediate, Change.Change, Logic.Logic, Logic.the-variants.And, Logic.the-variants.Or}
+use Rattle.manual.specs.declared.{Logic.the-variants.Eor, Sum.Sum}
+use Rattle.manual.specs.{Word.plus, Bits.logic, Bits.bitOf, Bits.changedBit, Bits.reversedBits, Bits.reversedBytes, Registers.dataOf, Registers.noWrite, Registers.writeData, Flags.moveCodes, Flags.keptCodes, Flags.sumCodes}
+use Rattle.manual.specs.{Flags.compareCodes, Flags.testCodes, Flags.sumOrDifference, Flags.subtracted, Memory.Memory, Memory.load, Address.extension, Address.moved, Address.value, Change.done, Change.reading, Change.illegal, Change.putTo}
+use Rattle.manual.specs.{Change.readingPlace, Fields.upper, Fields.mode, Fields.register, Fields.bitOperator}
+use Rattle.instructions.specs.{Rows.firstRow, Rows.byRow}
 
--- BITREV Dx: no condition codes
+-- BITREV.L Dx: Dx with its bits in reverse order → Dx. Condition codes are not affected
 unfoldable pub bitrev : List ℕ → ℕ → ℕ → ℕ → Change
-bitrev g at sr op = done (plus at 2) (keptCodes sr) noWrite (writeData op (reversedBits 32 (dataOf g op)))
+bitrev g at sr op = done (plus at 2) (keptCodes sr) noWrite (writeData (register op) (reversedBits 32 (dataOf g (register op))))
 
--- BYTEREV Dx: no condition codes
+-- BYTEREV.L Dx: Dx with its bytes in reverse order → Dx. Condition codes are not affected
 unfoldable pub byterev : List ℕ → ℕ → ℕ → ℕ → Change
-byterev g at sr op = done (plus at 2) (keptCodes sr) noWrite (writeData op (reversedBytes (dataOf g op)))
+byterev g at sr op = done (plus at 2) (keptCodes sr) noWrite (writeData (register op) (reversedBytes (dataOf g (register op))))
 
--- FF1 Dx: how many zeros stand above the highest one, 32 for zero; the condition codes are those of the old value
+-- FF1.L Dx: the zeros above the highest one of Dx, 32 if there is none → Dx. N, Z of the old Dx; V, C cleared; X not affected
 unfoldable pub ff1 : List ℕ → ℕ → ℕ → ℕ → Change
 ff1 g at sr op =
-    let v : ℕ = dataOf g op in
-    done (plus at 2) (moveCodes Long v sr) noWrite (writeData op (leadingZeros 32 v))
+    let v : ℕ = dataOf g (register op) in
+    done (plus at 2) (moveCodes Long v sr) noWrite (writeData (register op) (leadingZeros 32 v))
 
--- ORI, ANDI and EORI #imm,Dx
+-- ORI.L, ANDI.L, EORI.L #<data>,Dx: Dx op immediate → Dx. N, Z of the result; V, C cleared; X not affected
 unfoldable pub logicImmediate : Logic → List ℕ → ℕ → ℕ → Memory → ℕ → Change
 logicImmediate l g at sr m op =
     let pc : ℕ = plus at 2 in
     reading (load m pc Long) λ v.
-    let r : ℕ = logic l (dataOf g op) v in
-    done (plus pc 4) (moveCodes Long r sr) noWrite (writeData op r)
+    let r : ℕ = logic l (dataOf g (register op)) v in
+    done (plus pc 4) (moveCodes Long r sr) noWrite (writeData (register op) r)
 
--- ADDI and SUBI #imm,Dx
+-- ADDI.L, SUBI.L #<data>,Dx: Dx + immediate → Dx, or Dx - immediate. X, N, Z, V, C as ADD or SUB
 unfoldable pub sumImmediate : Bool → List ℕ → ℕ → Memory → ℕ → Change
 sumImmediate add g at m op =
     let pc : ℕ = plus at 2 in
     reading (load m pc Long) λ v.
-    let r : Sum = sumOrDifference add Long v (dataOf g op) false in
-    done (plus pc 4) (sumCodes r) noWrite (writeData op (r .value))
+    let r : Sum = sumOrDifference add Long v (dataOf g (register op)) false in
+    done (plus pc 4) (sumCodes r) noWrite (writeData (register op) (r .value))
 
--- CMPI #imm,Dx
+-- CMPI #<data>,Dx: Dx - immediate. N, Z, V, C of it; X not affected
+-- 29. The upper byte of CMPI.B's word is not looked at, nor any other bit that has no name here. The manual: 0, or undefined
 unfoldable pub cmpi : Size → List ℕ → ℕ → ℕ → Memory → ℕ → Change
 cmpi z g at sr m op =
     let pc : ℕ = plus at 2 in
     reading (value g m pc Immediate z) λ v.
-    done (plus pc (extension Immediate z)) (compareCodes sr (subtracted z v (dataOf g op) false)) noWrite noWrite
+    done (plus pc (extension Immediate z)) (compareCodes sr (subtracted z v (dataOf g (register op)) false)) noWrite noWrite
 
--- BTST, BCHG, BCLR and BSET of a data register: bit n modulo 32, the operation by bits 7 and 6
+-- ---- BTST, BCHG, BCLR, BSET: ~(bit n of the operand) → Z; BCHG turns the bit over, BCLR clears and BSET sets it. X, N, V, C not affected
+
+-- a data register: a long, bit n modulo 32
 unfoldable pub bitOfData : List ℕ → ℕ → ℕ → ℕ → ℕ → Change
 bitOfData g pc sr op n =
-    let v : ℕ = dataOf g op in
-    done pc (testCodes sr (not (bitOf (n % 32) v))) noWrite (writeData op (changedBit (op / 64) (n % 32) v))
+    let v : ℕ = dataOf g (register op) in
+    done pc (testCodes sr (not (bitOf (n % 32) v))) noWrite (writeData (register op) (changedBit (bitOperator op) (n % 32) v))
 
--- of a byte anywhere else: bit n modulo 8. A test stores nothing
+-- anywhere else: a byte, bit n modulo 8. BTST, operation 0, stores nothing
+-- 47, 57. BTST takes An, an immediate and places relative to the program counter. The manual: no An; the others are not remembered
 unfoldable pub bitOfByte : List ℕ → ℕ → ℕ → Memory → ℕ → ℕ → Change
 bitOfByte g pc sr m op n =
-    let to : Destination = destination g m pc op Byte in
-    reading (fetch g m (to .place) Byte) λ v.
+    readingPlace g m pc op Byte λ to v.
     let codes : ℕ = testCodes sr (not (bitOf (n % 8) v)) in
-    cond (eqb (op / 64 % 4) 0)
+    cond (eqb (bitOperator op) 0)
     (done (to .next) codes (to .moved) noWrite)
-    (putTo g codes to Byte (changedBit (op / 64) (n % 8) v))
+    (putTo g codes to Byte (changedBit (bitOperator op) (n % 8) v))
 
 unfoldable pub bitOperation : List ℕ → ℕ → ℕ → Memory → ℕ → ℕ → Change
-bitOperation g pc sr m op n = cond (eqb (op / 8 % 8) 0) (bitOfData g pc sr op n) (bitOfByte g pc sr m op n)
+bitOperation g pc sr m op n = cond (eqb (mode op) 0) (bitOfData g pc sr op n) (bitOfByte g pc sr m op n)
 
--- the bit's number is in Dn, or in the word that follows
+-- the bit's number is in a register, or in the word that follows
 unfoldable pub bitByRegister : List ℕ → ℕ → ℕ → Memory → ℕ → Change
-bitByRegister g at sr m op = bitOperation g (plus at 2) sr m op (dataOf g (op / 512))
+bitByRegister g at sr m op = bitOperation g (plus at 2) sr m op (dataOf g (upper op))
 
 unfoldable pub bitByImmediate : List ℕ → ℕ → ℕ → Memory → ℕ → Change
 bitByImmediate g at sr m op =
     reading (load m (plus at 2) Word) λ n.
     bitOperation g (plus at 4) sr m op n
 
--- ---- the rows of the line; every other word is illegal
+-- ---- the rows of the line
 
 unfoldable pub line0 : ℕ → List ℕ → ℕ → ℕ → Memory → ℕ → Change
 line0 row g at sr m op =
-    getD
-    (bitrev g at sr op ∷
-    byterev g at sr op ∷
-    ff1 g at sr op ∷
-    logicImmediate Or g at sr m op ∷
-    logicImmediate And g at sr m op ∷
-    sumImmediate false g at m op ∷
-    sumImmediate true g at m op ∷
-    logicImmediate Eor g at sr m op ∷
-    cmpi Byte g at sr m op ∷
-    cmpi Word g at sr m op ∷
-    cmpi Long g at sr m op ∷
-    bitByImmediate g at sr m op ∷
-    bitByRegister g at sr m op ∷
+    byRow (firstRow 0) row at sr
+    (bitrev g at sr op ∷  -- 0 BITREV 00C0/FFF8
+    byterev g at sr op ∷  -- 1 BYTEREV 02C0/FFF8
+    ff1 g at sr op ∷  -- 2 FF1 04C0/FFF8
+    logicImmediate Or g at sr m op ∷  -- 3 ORI 0080/FFF8
+    logicImmediate And g at sr m op ∷  -- 4 ANDI 0280/FFF8
+    sumImmediate false g at m op ∷  -- 5 SUBI 0480/FFF8
+    sumImmediate true g at m op ∷  -- 6 ADDI 0680/FFF8
+    logicImmediate Eor g at sr m op ∷  -- 7 EORI 0A80/FFF8
+    cmpi Byte g at sr m op ∷  -- 8 CMPI_B 0C00/FFF8
+    cmpi Word g at sr m op ∷  -- 9 CMPI_W 0C40/FFF8
+    cmpi Long g at sr m op ∷  -- 10 CMPI_L 0C80/FFF8
+    bitByImmediate g at sr m op ∷  -- 11 BITOP_IMM 0800/FF00
+    bitByRegister g at sr m op ∷  -- 12 BITOP_DN 0100/F100
+    illegal at sr ∷  -- 13 ILL_0 0000/F000
     [])
-    (placeIn (firstRow 0) row) (illegal at sr)

@@ -1,109 +1,95 @@
--- Line 4: miscellaneous. The manual: LEA, PEA, JSR, JMP, RTS, RTE, STOP, HALT, PULSE, NOP, TRAP, LINK, UNLK, MOVEM, MOVE to and
--- from SR, CCR and USP, STRLDSR, EXT, EXTB, SWAP, SATS, NEG, NEGX, NOT, CLR, TST, TAS, MULS.L, MULU.L, DIVS.L, DIVU.L, REMS.L, REMU.L.
-use Prim.Native.Nat.{ℕ, _+_, _-_, _*_, _/_, _%_, _^_}
-use mathlib.Core.Bool.{Bool, true, false, cond}
-use mathlib.Core.List.{List, [], _∷_}
-use lib.Dec.{eqb, ltb}
-use lib.ListN.{getD}
-use Rattle.manual.specs.declared.Size.{Size}
-use Rattle.manual.specs.declared.Size.the-variants.{Byte, Word, Long}
-use Rattle.manual.specs.declared.Operand.{Operand}
-use Rattle.manual.specs.declared.Operand.the-variants.{Immediate}
-use Rattle.manual.specs.declared.Source.{Source}
-use Rattle.manual.specs.declared.Destination.{Destination}
-use Rattle.manual.specs.declared.Write.{Write}
-use Rattle.manual.specs.declared.Change.{Change}
-use Rattle.manual.specs.declared.Sum.{Sum}
-use Rattle.manual.specs.declared.Quotient.{Quotient}
-use Rattle.manual.specs.declared.Action.{Action}
-use Rattle.manual.specs.declared.Action.the-variants.{Return, Status, Stop, PushStatus, Halt, SetOther, StoreMany, LoadMany}
-use Rattle.manual.specs.Word.{plus, minus, cut, merged, signExtended, sizeOf}
-use Rattle.manual.specs.Bits.{withBit}
-use Rattle.manual.specs.Multiply.{longProduct, signedLongProduct}
-use Rattle.manual.specs.Divide.{quotient, signedQuotient, overflowCodes}
-use Rattle.manual.specs.Registers.{dataOf, addressOf, noWrite, writeData, writeAddress}
-use Rattle.manual.specs.Flags.{flagX, flagV, moveCodes, keptCodes, sumCodes, extendedCodes, subtracted}
-use Rattle.manual.specs.Exceptions.{supervisor}
-use Rattle.manual.specs.Memory.{Memory, load}
-use Rattle.manual.specs.Address.{operand, extension, source, moved, locate, fetch, control, destination}
-use Rattle.manual.specs.Change.{done, store, acting, enter, enterAfter, illegal, privilege, notCarried, jump, push, reading, reaching, put, putTo}
-use Rattle.instructions.specs.Rows.{firstRow, placeIn}
-
--- the operand that bits 5 to 0 name
-abbrev named : ℕ → Operand
-named op = operand (op / 8 % 8) (op % 8)
+-- Line 4: miscellaneous.
+use Prim.Native.Nat.{ℕ, _+_, _-_, _*_, _/_, _%_}
+use mathlib.Core.{Bool.Bool, Bool.true, Bool.false, Bool.cond, List.List, List.[], List._∷_}
+use lib.{Dec.eqb, Dec.ltb}
+use Rattle.manual.specs.declared.{Size.Size, Size.the-variants.Byte, Size.the-variants.Word, Size.the-variants.Long, Source.Source, Write.Write, Change.Change, Sum.Sum, Quotient.Quotient, Action.Action, Action.the-variants.Return}
+use Rattle.manual.specs.declared.{Action.the-variants.Status, Action.the-variants.Stop, Action.the-variants.PushStatus, Action.the-variants.Halt, Action.the-variants.SetOther, Action.the-variants.StoreMany, Action.the-variants.LoadMany}
+use Rattle.manual.specs.{Word.plus, Word.minus, Word.cut, Word.merged, Word.signExtended, Bits.bitOf, Bits.withBit, Multiply.longProduct, Multiply.signedLongProduct, Divide.quotient, Divide.signedQuotient, Divide.overflowCodes}
+use Rattle.manual.specs.{Registers.dataOf, Registers.addressOf, Registers.noWrite, Registers.writeData, Registers.writeAddress, Flags.flagX, Flags.flagV, Flags.moveCodes, Flags.keptCodes, Flags.sumCodes, Flags.extendedCodes}
+use Rattle.manual.specs.{Flags.subtracted, Exceptions.supervisor, Memory.Memory, Memory.load, Address.extension, Address.moved, Address.control, Address.destination, Address.operandOf, Change.readingSource, Change.done, Change.store}
+use Rattle.manual.specs.{Change.acting, Change.enter, Change.enterAfter, Change.illegal, Change.privilege, Change.notCarried, Change.jump, Change.push, Change.reading, Change.reaching, Change.putTo, Change.updating, Change.result}
+use Rattle.manual.specs.{Fields.upper, Fields.mode, Fields.register, Fields.sizeField, Fields.lowFour, Fields.bits}
+use Rattle.instructions.specs.{Rows.firstRow, Rows.byRow}
 
 -- ---- control
 
--- NOP and PULSE
+-- NOP: none. PULSE: a debug signal, which this core has not. Condition codes are not affected
 unfoldable pub nop : ℕ → ℕ → Change
 nop at sr = jump sr (plus at 2)
 
--- LEA: the address itself into An
+-- LEA.L <ea>y,Ax: <ea>y → Ax. Condition codes are not affected
 unfoldable pub lea : List ℕ → ℕ → ℕ → Memory → ℕ → Change
 lea g at sr m op =
     let pc : ℕ = plus at 2 in
-    reaching sr at (control g m pc (named op)) λ a.
-    done (plus pc (extension (named op) Long)) (keptCodes sr) noWrite (writeAddress (op / 512) a)
+    reaching sr at (control g m pc (operandOf op)) λ a.
+    done (plus pc (extension (operandOf op) Long)) (keptCodes sr) noWrite (writeAddress (upper op) a)
 
--- PEA: the address is pushed
+-- PEA.L <ea>y: SP - 4 → SP; <ea>y → (SP). Condition codes are not affected
 unfoldable pub pea : List ℕ → ℕ → ℕ → Memory → ℕ → Change
 pea g at sr m op =
     let pc : ℕ = plus at 2 in
-    reaching sr at (control g m pc (named op)) λ a.
-    push g sr (plus pc (extension (named op) Long)) a
+    reaching sr at (control g m pc (operandOf op)) λ a.
+    push g sr (plus pc (extension (operandOf op) Long)) a
 
--- JSR: the address of the next instruction is pushed
+-- JSR <ea>y: SP - 4 → SP; next PC → (SP); <ea>y → PC. Condition codes are not affected
 unfoldable pub jsr : List ℕ → ℕ → ℕ → Memory → ℕ → Change
 jsr g at sr m op =
     let pc : ℕ = plus at 2 in
-    reaching sr at (control g m pc (named op)) λ a.
-    push g sr a (plus pc (extension (named op) Long))
+    reaching sr at (control g m pc (operandOf op)) λ a.
+    push g sr a (plus pc (extension (operandOf op) Long))
 
+-- JMP <ea>y: <ea>y → PC. Condition codes are not affected
 unfoldable pub jmp : List ℕ → ℕ → ℕ → Memory → ℕ → Change
 jmp g at sr m op =
-    reaching sr at (control g m (plus at 2) (named op)) λ a.
+    reaching sr at (control g m (plus at 2) (operandOf op)) λ a.
     jump sr a
 
--- RTS: the program counter is popped
+-- RTS: (SP) → PC; SP + 4 → SP. Condition codes are not affected
 unfoldable pub rts : List ℕ → ℕ → Memory → Change
 rts g sr m =
     let sp : ℕ = addressOf g 7 in
     reading (load m sp Long) λ v.
     done v (keptCodes sr) (writeAddress 7 (plus sp 4)) noWrite
 
--- TRAP: the frame's pc is that of the next instruction
+-- TRAP #<vector>: vector 32 + bits 3 to 0, with the next PC in the frame. Condition codes are not affected
 unfoldable pub trap : ℕ → ℕ → ℕ → Change
-trap at sr op = enter sr (32 + op % 16) (plus at 2)
+trap at sr op = enter sr (32 + lowFour op) (plus at 2)
 
--- LINK: An is pushed and takes the stack pointer, to which the displacement is added
+-- LINK.W Ay,#<displacement>: SP - 4 → SP; Ay → (SP); SP → Ay; SP + displacement → SP. Condition codes are not affected
+-- 32. LINK A7 pushes A7 as it was before the decrement. The manual, read literally: as it is after
 unfoldable pub link : List ℕ → ℕ → ℕ → Memory → ℕ → Change
 link g at sr m op =
     let pc : ℕ = plus at 2 in
+    let a : ℕ = addressOf g (register op) in
     let sp : ℕ = minus (addressOf g 7) 4 in
     reading (load m pc Word) λ d.
-    store (plus pc 2) (keptCodes sr) (writeAddress op sp) (writeAddress 7 (plus sp (signExtended Word d))) sp Long (addressOf g op)
+    store (plus pc 2) (keptCodes sr) (writeAddress (register op) sp) (writeAddress 7 (plus sp (signExtended Word d))) sp Long a
 
--- UNLK: the stack pointer is An, and An is popped
+-- UNLK Ax: Ax → SP; (SP) → Ax; SP + 4 → SP. Condition codes are not affected
+-- 32. UNLK A7 leaves the popped long. The manual, read literally: 4 more
 unfoldable pub unlk : List ℕ → ℕ → ℕ → Memory → ℕ → Change
 unlk g at sr m op =
-    let a : ℕ = addressOf g op in
+    let a : ℕ = addressOf g (register op) in
     reading (load m a Long) λ v.
-    done (plus at 2) (keptCodes sr) (writeAddress 7 (plus a 4)) (writeAddress op v)
+    done (plus at 2) (keptCodes sr) (writeAddress 7 (plus a 4)) (writeAddress (register op) v)
 
--- ---- the supervisor's
+-- ---- the status register and the stack pointers. S: in user mode a privilege violation, vector 8
 
+-- RTE (S): the frame at SP → SR, PC, and SP goes up past it. Condition codes are the frame's
 unfoldable pub rte : ℕ → ℕ → Change
 rte at sr = cond (supervisor sr) (acting sr (plus at 2) noWrite Return) (privilege at sr)
 
--- 12. STOP, STRLDSR and MOVE to SR fetch and read before the privilege test. The manual: the violation comes before any effect
+-- STOP #<data> (S): immediate → SR; stop. Condition codes are the immediate's
+-- 12. The word is fetched before the privilege test. The manual: the violation comes before any effect
 unfoldable pub stop : ℕ → ℕ → Memory → Change
 stop at sr m =
     let pc : ℕ = plus at 2 in
     reading (load m pc Word) λ v.
     cond (supervisor sr) (acting sr (plus pc 2) noWrite (Stop v)) (privilege at sr)
 
--- STRLDSR: the second word is 0x46FC
+-- STRLDSR #<data> (S), STLDSR in the document: SP - 4 → SP; zero-extended SR → (SP); immediate → SR. Condition codes are the immediate's
+-- 12. Both words are fetched before the privilege test. The manual: the violation comes before any effect
+-- 52. Where the second word is not 0x46FC: illegal, in user mode too. The manual: undefined
 unfoldable pub stldsr : ℕ → ℕ → Memory → Change
 stldsr at sr m =
     let pc : ℕ = plus at 2 in
@@ -113,163 +99,183 @@ stldsr at sr m =
     cond (supervisor sr) (acting sr (plus pc 4) noWrite (PushStatus v)) (privilege at sr))
     (illegal at sr)
 
--- 8. HALT is not privileged, and an entry wakes the core. The manual: it is, and the debug port alone resumes
+-- HALT: stop. Condition codes are not affected
+-- 8. HALT is not privileged. The manual: it is, unless CSR[UHE] is set
 unfoldable pub halt : ℕ → ℕ → Change
 halt at sr = acting sr (plus at 2) noWrite Halt
 
+-- MOVE.L Ay,USP (S): Ay → USP. Condition codes are not affected
+-- 54. USP is the pointer that A7 is not, also where CACR bit 5 says that there is one alone. The manual does not say
 unfoldable pub moveToUsp : List ℕ → ℕ → ℕ → ℕ → Change
-moveToUsp g at sr op = cond (supervisor sr) (acting sr (plus at 2) noWrite (SetOther (addressOf g op))) (privilege at sr)
+moveToUsp g at sr op =
+    cond (supervisor sr) (acting sr (plus at 2) noWrite (SetOther (addressOf g (register op)))) (privilege at sr)
 
+-- MOVE.L USP,Ax (S): USP → Ax. Condition codes are not affected
 unfoldable pub moveFromUsp : ℕ → ℕ → ℕ → ℕ → Change
-moveFromUsp at sr other op = cond (supervisor sr) (done (plus at 2) (keptCodes sr) noWrite (writeAddress op other)) (privilege at sr)
+moveFromUsp at sr other op =
+    cond (supervisor sr) (done (plus at 2) (keptCodes sr) noWrite (writeAddress (register op) other)) (privilege at sr)
 
--- 15. MOVE from SR to anything but Dn is a violation in user mode. The manual: illegal
+-- MOVE.W SR,Dx (S): SR → Dx. Condition codes are not affected
+-- 15. To anything but Dx it is a violation in user mode. The manual: illegal
 unfoldable pub moveFromSr : List ℕ → ℕ → ℕ → ℕ → Change
 moveFromSr g at sr op =
     cond (supervisor sr)
-    (cond (eqb (op / 8 % 8) 0)
-    (done (plus at 2) (keptCodes sr) noWrite (writeData op (merged Word (dataOf g op) sr)))
+    (cond (eqb (mode op) 0)
+    (done (plus at 2) (keptCodes sr) noWrite (writeData (register op) (merged Word (dataOf g (register op)) sr)))
     (illegal at sr))
     (privilege at sr)
 
+-- MOVE.W <ea>y,SR (S): source → SR. Condition codes are the source's
+-- 12. The operand is read before the privilege test, and (An)+ stays moved. The manual: the violation comes before any effect
+-- 28, 46. From memory and from An too, here and to CCR. The manual: from Dn or an immediate
 unfoldable pub moveToSr : List ℕ → ℕ → ℕ → Memory → ℕ → Change
 moveToSr g at sr m op =
-    let from : Source = source g m (plus at 2) op Word in
-    reading (from .got) λ v.
+    readingSource g m (plus at 2) op Word λ from v.
     cond (supervisor sr) (acting sr (from .next) (from .moved) (Status v)) (enterAfter (from .moved) sr 8 at)
 
+-- MOVE.W CCR,Dx: CCR → Dx. Condition codes are not affected
 unfoldable pub moveFromCcr : List ℕ → ℕ → ℕ → ℕ → Change
-moveFromCcr g at sr op = done (plus at 2) (keptCodes sr) noWrite (writeData op (merged Word (dataOf g op) (keptCodes sr)))
+moveFromCcr g at sr op =
+    done (plus at 2) (keptCodes sr) noWrite (writeData (register op) (merged Word (dataOf g (register op)) (keptCodes sr)))
 
+-- MOVE.B <ea>y,CCR: source → CCR. Condition codes are the source's
 unfoldable pub moveToCcr : List ℕ → ℕ → Memory → ℕ → Change
 moveToCcr g at m op =
-    let from : Source = source g m (plus at 2) op Word in
-    reading (from .got) λ v.
+    readingSource g m (plus at 2) op Word λ from v.
     done (from .next) (keptCodes v) (from .moved) noWrite
 
--- ---- MOVEM: a word that names the registers, D0 in bit 0, and then the address in modes 2 and 5
--- 15. Any other mode fetches the word first. The manual: illegal
+-- ---- MOVEM.L #list,<ea>x and <ea>y,#list: the registers of a word, D0 in bit 0 and A7 in bit 15, one after the other from the address on.
+-- Condition codes are not affected
 
 -- the registers go to memory, or come from it
 unfoldable pub many : Bool → ℕ → ℕ → Action
 many toMemory mask a = cond toMemory (StoreMany mask a) (LoadMany mask a)
 
+-- 15. Modes that MOVEM has not fetch the mask first. The manual: illegal
 unfoldable pub movem : Bool → List ℕ → ℕ → ℕ → Memory → ℕ → Change
 movem toMemory g at sr m op =
     let pc : ℕ = plus at 2 in
-    let a : ℕ = addressOf g op in
+    let a : ℕ = addressOf g (register op) in
     reading (load m pc Word) λ mask.
-    cond (eqb (op / 8 % 8) 2)
+    cond (eqb (mode op) 2)
     (acting sr (plus pc 2) noWrite (many toMemory mask a))
-    (cond (eqb (op / 8 % 8) 5)
+    (cond (eqb (mode op) 5)
     (reading (load m (plus pc 2) Word) λ d.
     acting sr (plus pc 4) noWrite (many toMemory mask (plus a (signExtended Word d))))
     (illegal at sr))
 
 -- ---- one data register
 
--- EXTB.L: a byte to a long
+-- EXTB.L Dx: the low byte, sign-extended → Dx. N, Z of the result; V, C cleared; X not affected
 unfoldable pub extb : List ℕ → ℕ → ℕ → ℕ → Change
 extb g at sr op =
-    let v : ℕ = signExtended Byte (dataOf g op) in
-    done (plus at 2) (moveCodes Long v sr) noWrite (writeData op v)
+    let v : ℕ = signExtended Byte (dataOf g (register op)) in
+    done (plus at 2) (moveCodes Long v sr) noWrite (writeData (register op) v)
 
--- EXT.W: a byte to a word
+-- EXT.W Dx: the low byte, sign-extended to a word → low word of Dx. Condition codes as EXTB
 unfoldable pub extW : List ℕ → ℕ → ℕ → ℕ → Change
 extW g at sr op =
-    let v : ℕ = cut Word (signExtended Byte (dataOf g op)) in
-    done (plus at 2) (moveCodes Word v sr) noWrite (writeData op (merged Word (dataOf g op) v))
+    let v : ℕ = cut Word (signExtended Byte (dataOf g (register op))) in
+    done (plus at 2) (moveCodes Word v sr) noWrite (writeData (register op) (merged Word (dataOf g (register op)) v))
 
--- EXT.L: a word to a long
+-- EXT.L Dx: the low word, sign-extended → Dx. Condition codes as EXTB
 unfoldable pub extL : List ℕ → ℕ → ℕ → ℕ → Change
 extL g at sr op =
-    let v : ℕ = signExtended Word (dataOf g op) in
-    done (plus at 2) (moveCodes Long v sr) noWrite (writeData op v)
+    let v : ℕ = signExtended Word (dataOf g (register op)) in
+    done (plus at 2) (moveCodes Long v sr) noWrite (writeData (register op) v)
 
--- SWAP: the two words change places
+-- SWAP.W Dx: the two words of Dx change places. N, Z of the result; V, C cleared; X not affected
 unfoldable pub swap : List ℕ → ℕ → ℕ → ℕ → Change
 swap g at sr op =
-    let v : ℕ = dataOf g op % 0x1_0000 * 0x1_0000 + dataOf g op / 0x1_0000 in
-    done (plus at 2) (moveCodes Long v sr) noWrite (writeData op v)
+    let d : ℕ = dataOf g (register op) in
+    let v : ℕ = d % 0x1_0000 * 0x1_0000 + d / 0x1_0000 in
+    done (plus at 2) (moveCodes Long v sr) noWrite (writeData (register op) v)
 
--- SATS: after an overflow, the largest number of the sign that the value should have had
+-- after an overflow, the largest number of the sign that the value should have had
 unfoldable pub saturated : ℕ → ℕ → ℕ
 saturated sr v = cond (flagV sr) (cond (ltb v 0x8000_0000) 0x8000_0000 0x7FFF_FFFF) v
 
+-- SATS.L Dx: if V, saturated Dx → Dx. N, Z of the result; V, C cleared; X not affected
 unfoldable pub sats : List ℕ → ℕ → ℕ → ℕ → Change
 sats g at sr op =
-    let v : ℕ = saturated sr (dataOf g op) in
-    done (plus at 2) (moveCodes Long v sr) noWrite (writeData op v)
+    let v : ℕ = saturated sr (dataOf g (register op)) in
+    done (plus at 2) (moveCodes Long v sr) noWrite (writeData (register op) v)
 
+-- NEG.L Dx: 0 - Dx → Dx. X, N, Z, V, C as SUB
 unfoldable pub neg : List ℕ → ℕ → ℕ → Change
 neg g at op =
-    let r : Sum = subtracted Long (dataOf g op) 0 false in
-    done (plus at 2) (sumCodes r) noWrite (writeData op (r .value))
+    let r : Sum = subtracted Long (dataOf g (register op)) 0 false in
+    done (plus at 2) (sumCodes r) noWrite (writeData (register op) (r .value))
 
+-- NEGX.L Dx: 0 - Dx - X → Dx. X, N, V, C as SUB; Z cleared if nonzero, else kept
 unfoldable pub negx : List ℕ → ℕ → ℕ → ℕ → Change
 negx g at sr op =
-    let r : Sum = subtracted Long (dataOf g op) 0 (flagX sr) in
-    done (plus at 2) (extendedCodes sr r) noWrite (writeData op (r .value))
+    let r : Sum = subtracted Long (dataOf g (register op)) 0 (flagX sr) in
+    done (plus at 2) (extendedCodes sr r) noWrite (writeData (register op) (r .value))
 
+-- NOT.L Dx: ~Dx → Dx. N, Z of the result; V, C cleared; X not affected
 unfoldable pub not : List ℕ → ℕ → ℕ → ℕ → Change
 not g at sr op =
-    let v : ℕ = 0xFFFF_FFFF - dataOf g op in
-    done (plus at 2) (moveCodes Long v sr) noWrite (writeData op v)
+    let v : ℕ = 0xFFFF_FFFF - dataOf g (register op) in
+    done (plus at 2) (moveCodes Long v sr) noWrite (writeData (register op) v)
 
 -- ---- one operand
 
--- CLR: the operand is not read
+-- CLR <ea>x: 0 → destination, which is not read. Z set; N, V, C cleared; X not affected
 unfoldable pub clr : List ℕ → ℕ → ℕ → Memory → ℕ → Change
 clr g at sr m op =
-    let z : Size = sizeOf (op / 64) in
+    let z : Size = sizeField op in
     putTo g (moveCodes z 0 sr) (destination g m (plus at 2) op z) z 0
 
+-- TST <ea>y: the source is tested. N, Z of it; V, C cleared; X not affected
 unfoldable pub tst : List ℕ → ℕ → ℕ → Memory → ℕ → Change
 tst g at sr m op =
-    let z : Size = sizeOf (op / 64) in
-    let from : Source = source g m (plus at 2) op z in
-    reading (from .got) λ v.
+    let z : Size = sizeField op in
+    readingSource g m (plus at 2) op z λ from v.
     done (from .next) (moveCodes z v sr) (from .moved) noWrite
 
--- TAS: a byte is tested, and its highest bit set
+-- TAS.B <ea>x: the byte is tested; 1 → its bit 7. N, Z of the old byte; V, C cleared; X not affected
+-- 26. Dn too. The manual: memory alone
 unfoldable pub tas : List ℕ → ℕ → ℕ → Memory → ℕ → Change
-tas g at sr m op =
-    let to : Destination = destination g m (plus at 2) op Byte in
-    reading (fetch g m (to .place) Byte) λ v.
-    putTo g (moveCodes Byte v sr) to Byte (withBit 7 true v)
+tas g at sr m op = updating g m (plus at 2) op Byte λ v. result (moveCodes Byte v sr) (withBit 7 true v)
 
--- products and quotients of longs: goes on with the second word, the operand after it and the operand's value
+-- ---- products and quotients of longs
+
+-- goes on with the second word, the operand after it and the operand's value
 abbrev pub withWordAndLong : List ℕ → ℕ → Memory → ℕ → (ℕ → Source → ℕ → Change) → Change
 withWordAndLong g at m op f =
     let pc : ℕ = plus at 2 in
     reading (load m pc Word) λ w.
-    let from : Source = source g m (plus pc 2) op Long in
-    reading (from .got) λ v.
+    readingSource g m (plus pc 2) op Long λ from v.
     f w from v
 
--- MULU.L and MULS.L: bits 14 to 12 of the second word name the register, and bit 11 says signed
+-- MULS.L, MULU.L <ea>y,Dx: source * Dx → Dx, its low 32 bits. N, Z of the result; V, C cleared; X not affected
 abbrev pub mulLBy : List ℕ → ℕ → ℕ → Source → ℕ → Change
 mulLBy g sr w from v =
-    let d : ℕ = dataOf g (w / 0x1000) in
-    let r : ℕ = cond (eqb (w / 0x800 % 2) 1) (signedLongProduct d v) (longProduct d v) in
-    done (from .next) (moveCodes Long r sr) (from .moved) (writeData (w / 0x1000) r)
+    let d : ℕ = dataOf g (bits 14 12 w) in
+    let r : ℕ = cond (bitOf 11 w) (signedLongProduct d v) (longProduct d v) in
+    done (from .next) (moveCodes Long r sr) (from .moved) (writeData (bits 14 12 w) r)
 
 unfoldable pub mulL : List ℕ → ℕ → ℕ → Memory → ℕ → Change
 mulL g at sr m op = withWordAndLong g at m op (mulLBy g sr)
 
--- DIVU.L and DIVS.L; bits 2 to 0 of the second word name another register for REMU.L and REMS.L, whose condition codes are the
--- quotient's too
+-- DIVS.L, DIVU.L <ea>y,Dx: Dx / source → Dx. REMS.L, REMU.L <ea>y,Dw:Dx, where Dw is another: the remainder → Dw.
+-- N, Z of the quotient; V set if it does not fit, and then no register changes; C cleared; X not affected
 unfoldable pub divided : ℕ → ℕ → ℕ → Quotient
-divided w d v = cond (eqb (w / 0x800 % 2) 1) (signedQuotient d v) (quotient d v)
+divided w d v = cond (bitOf 11 w) (signedQuotient d v) (quotient d v)
 
 abbrev pub quotientTo : ℕ → Quotient → Write
-quotientTo w q = cond (eqb (w / 0x1000 % 8) (w % 8)) (writeData w (q .quotient)) (writeData w (q .remainder))
+quotientTo w q = cond (eqb (bits 14 12 w) (register w)) (writeData (register w) (q .quotient)) (writeData (register w) (q .remainder))
+
+-- 1. A divide by zero has the next instruction's PC in its frame. The manual: the divide's
+-- 44. And (An)+ stays moved. The manual: no register is affected
+abbrev pub zeroDivide : ℕ → Source → Change
+zeroDivide sr from = enterAfter (from .moved) sr 5 (from .next)
 
 abbrev pub divLBy : List ℕ → ℕ → ℕ → Source → ℕ → Change
 divLBy g sr w from v =
-    let q : Quotient = divided w (dataOf g (w / 0x1000)) v in
-    -- 1. a divide by zero has the next instruction's pc in its frame. The manual: the divide's
-    cond (eqb v 0) (enterAfter (from .moved) sr 5 (from .next))
+    let q : Quotient = divided w (dataOf g (bits 14 12 w)) v in
+    cond (eqb v 0) (zeroDivide sr from)
     (cond (q .fits)
     (done (from .next) (moveCodes Long (q .quotient) sr) (from .moved) (quotientTo w q))
     (done (from .next) (overflowCodes sr) (from .moved) noWrite))
@@ -277,49 +283,49 @@ divLBy g sr w from v =
 unfoldable pub divL : List ℕ → ℕ → ℕ → Memory → ℕ → Change
 divL g at sr m op = withWordAndLong g at m op (divLBy g sr)
 
--- ---- the rows of the line; every other word is illegal
+-- ---- the rows of the line
 
 unfoldable pub line4 : ℕ → List ℕ → ℕ → ℕ → ℕ → Memory → ℕ → Change
 line4 row g at sr other m op =
-    getD
-    (nop at sr ∷
-    stop at sr m ∷
-    rte at sr ∷
-    rts g sr m ∷
-    notCarried ∷
-    notCarried ∷
-    halt at sr ∷
-    nop at sr ∷
-    illegal at sr ∷
-    stldsr at sr m ∷
-    extb g at sr op ∷
-    link g at sr m op ∷
-    unlk g at sr m op ∷
-    moveToUsp g at sr op ∷
-    moveFromUsp at sr other op ∷
-    moveFromCcr g at sr op ∷
-    swap g at sr op ∷
-    extW g at sr op ∷
-    extL g at sr op ∷
-    sats g at sr op ∷
-    negx g at sr op ∷
-    neg g at op ∷
-    not g at sr op ∷
-    trap at sr op ∷
-    jsr g at sr m op ∷
-    jmp g at sr m op ∷
-    moveFromSr g at sr op ∷
-    illegal at sr ∷
-    moveToCcr g at m op ∷
-    moveToSr g at sr m op ∷
-    pea g at sr m op ∷
-    movem true g at sr m op ∷
-    movem false g at sr m op ∷
-    mulL g at sr m op ∷
-    divL g at sr m op ∷
-    tas g at sr m op ∷
-    clr g at sr m op ∷
-    tst g at sr m op ∷
-    lea g at sr m op ∷
+    byRow (firstRow 4) row at sr
+    (nop at sr ∷  -- 20 NOP 4E71/FFFF
+    stop at sr m ∷  -- 21 STOP 4E72/FFFF
+    rte at sr ∷  -- 22 RTE 4E73/FFFF
+    rts g sr m ∷  -- 23 RTS 4E75/FFFF
+    notCarried ∷  -- 24 MOVEC_READ 4E7A/FFFF
+    notCarried ∷  -- 25 MOVEC_WRITE 4E7B/FFFF
+    halt at sr ∷  -- 26 HALT 4AC8/FFFF
+    nop at sr ∷  -- 27 PULSE 4ACC/FFFF
+    illegal at sr ∷  -- 28 ILLEGAL 4AFC/FFFF
+    stldsr at sr m ∷  -- 29 STLDSR 40E7/FFFF
+    extb g at sr op ∷  -- 30 EXTB 49C0/FFF8
+    link g at sr m op ∷  -- 31 LINK 4E50/FFF8
+    unlk g at sr m op ∷  -- 32 UNLK 4E58/FFF8
+    moveToUsp g at sr op ∷  -- 33 TO_USP 4E60/FFF8
+    moveFromUsp at sr other op ∷  -- 34 FROM_USP 4E68/FFF8
+    moveFromCcr g at sr op ∷  -- 35 FROM_CCR 42C0/FFF8
+    swap g at sr op ∷  -- 36 SWAP 4840/FFF8
+    extW g at sr op ∷  -- 37 EXT_W 4880/FFF8
+    extL g at sr op ∷  -- 38 EXT_L 48C0/FFF8
+    sats g at sr op ∷  -- 39 SATS 4C80/FFF8
+    negx g at sr op ∷  -- 40 NEGX 4080/FFF8
+    neg g at op ∷  -- 41 NEG 4480/FFF8
+    not g at sr op ∷  -- 42 NOT 4680/FFF8
+    trap at sr op ∷  -- 43 TRAP 4E40/FFF0
+    jsr g at sr m op ∷  -- 44 JSR 4E80/FFC0
+    jmp g at sr m op ∷  -- 45 JMP 4EC0/FFC0
+    moveFromSr g at sr op ∷  -- 46 FROM_SR 40C0/FFC0
+    illegal at sr ∷  -- 47 ILL_42C0 42C0/FFC0
+    moveToCcr g at m op ∷  -- 48 TO_CCR 44C0/FFC0
+    moveToSr g at sr m op ∷  -- 49 TO_SR 46C0/FFC0
+    pea g at sr m op ∷  -- 50 PEA 4840/FFC0
+    movem true g at sr m op ∷  -- 51 MOVEM_STORE 48C0/FFC0
+    movem false g at sr m op ∷  -- 52 MOVEM_LOAD 4CC0/FFC0
+    mulL g at sr m op ∷  -- 53 MUL_L 4C00/FFC0
+    divL g at sr m op ∷  -- 54 DIV_L 4C40/FFC0
+    tas g at sr m op ∷  -- 55 TAS 4AC0/FFC0
+    clr g at sr m op ∷  -- 56 CLR 4200/FF00
+    tst g at sr m op ∷  -- 57 TST 4A00/FF00
+    lea g at sr m op ∷  -- 58 LEA 41C0/F1C0
+    illegal at sr ∷  -- 59 ILL_4 4000/F000
     [])
-    (placeIn (firstRow 4) row) (illegal at sr)

@@ -1,58 +1,38 @@
--- Line 5: ADDQ, SUBQ, Scc and TPF. The manual: the same names.
-use Prim.Native.Nat.{ℕ, _+_, _-_, _*_, _/_, _%_, _^_}
-use mathlib.Core.Bool.{Bool, true, false, cond, not}
-use mathlib.Core.List.{List, [], _∷_}
-use lib.Dec.{eqb, ltb}
-use lib.ListN.{getD}
-use Rattle.manual.specs.declared.Size.{Size}
-use Rattle.manual.specs.declared.Size.the-variants.{Byte, Word, Long}
-use Rattle.manual.specs.declared.Operand.{Operand}
-use Rattle.manual.specs.declared.Source.{Source}
-use Rattle.manual.specs.declared.Place.{Place}
-use Rattle.manual.specs.declared.Write.{Write}
-use Rattle.manual.specs.declared.Sum.{Sum}
-use Rattle.manual.specs.declared.Change.{Change}
-use Rattle.manual.specs.Word.{plus, merged}
-use Rattle.manual.specs.Registers.{dataOf, addressOf, noWrite, writeData, writeAddress}
-use Rattle.manual.specs.Flags.{keptCodes, sumCodes, sumOrDifference}
-use Rattle.manual.specs.Conditions.{condition}
-use Rattle.manual.specs.Change.{done, jump, illegal}
-use Rattle.manual.specs.Differences.{anySize}
-use Rattle.manual.specs.Memory.{Memory}
-use Rattle.instructions.specs.Rows.{firstRow, placeIn}
-use Rattle.instructions.specs.Line9D.{addToPlace, moreOrLess}
+-- Line 5: ADDQ, SUBQ, Scc and TPF.
+use Prim.Native.Nat.{ℕ, _+_}
+use mathlib.Core.{Bool.Bool, Bool.cond, List.List, List.[], List._∷_}
+use lib.{Dec.eqb}
+use Rattle.manual.specs.declared.{Size.the-variants.Byte, Change.Change}
+use Rattle.manual.specs.{Word.plus, Word.merged, Registers.dataOf, Registers.addressOf, Registers.noWrite, Registers.writeData, Registers.writeAddress, Flags.keptCodes, Conditions.condition, Change.done, Change.jump, Change.illegal}
+use Rattle.manual.specs.{Differences.anySize, Memory.Memory, Fields.bits, Fields.upper, Fields.register, Fields.conditionField}
+use Rattle.instructions.specs.{Rows.firstRow, Rows.byRow, Line9D.addToPlace, Line9D.moreOrLess}
 
--- the number of ADDQ and SUBQ, and of a shift: bits 11 to 9, with 8 for 0
+-- the immediate of ADDQ and SUBQ, and how far a shift goes: 1 to 8, 8 for 0
 unfoldable pub quickNumber : ℕ → ℕ
-quickNumber op = cond (eqb (op / 512 % 8) 0) 8 (op / 512 % 8)
+quickNumber op = cond (eqb (upper op) 0) 8 (upper op)
 
--- ADDQ or, by bit 8, SUBQ
+-- ADDQ, or SUBQ where bit 8 is set
 abbrev pub quickAdds : ℕ → Bool
-quickAdds op = eqb (op / 256 % 2) 0
+quickAdds op = eqb (bits 8 8 op) 0
 
--- to An: the whole register, and no condition codes
+-- ADDQ.L, SUBQ.L #<data>,Ax: Ax + immediate → Ax, or Ax - immediate. Condition codes are not affected
 unfoldable pub addqAddress : List ℕ → ℕ → ℕ → ℕ → Change
 addqAddress g at sr op =
-    done (plus at 2) (keptCodes sr) noWrite (writeAddress op (moreOrLess (quickAdds op) (addressOf g op) (quickNumber op)))
+    let v : ℕ = moreOrLess (quickAdds op) (addressOf g (register op)) (quickNumber op) in
+    done (plus at 2) (keptCodes sr) noWrite (writeAddress (register op) v)
 
--- to Dn
-unfoldable pub addqData : List ℕ → ℕ → ℕ → Change
-addqData g at op =
-    let z : Size = anySize op in
-    let old : ℕ = dataOf g op in
-    let r : Sum = sumOrDifference (quickAdds op) z (quickNumber op) old false in
-    done (plus at 2) (sumCodes r) noWrite (writeData op (merged z old (r .value)))
-
+-- ADDQ, SUBQ #<data>,<ea>x: destination + immediate → destination, or destination - immediate. X, N, Z, V, C as ADD or SUB
 unfoldable pub addq : List ℕ → ℕ → Memory → ℕ → Change
-addq g at m op =
-    cond (eqb (op / 8 % 8) 0) (addqData g at op) (addToPlace (quickAdds op) (anySize op) g at m op (quickNumber op))
+addq g at m op = addToPlace (quickAdds op) (anySize op) g at m op (quickNumber op)
 
--- Scc: the low byte of Dn is all ones where the condition holds, and all zeros where not
+-- Scc.B Dx: all ones → low byte of Dx if the condition holds, else all zeros. Condition codes are not affected
 unfoldable pub scc : List ℕ → ℕ → ℕ → ℕ → Change
 scc g at sr op =
-    done (plus at 2) (keptCodes sr) noWrite (writeData op (merged Byte (dataOf g op) (cond (condition (op / 256) sr) 0xFF 0)))
+    let v : ℕ = cond (condition (conditionField op) sr) 0xFF 0 in
+    done (plus at 2) (keptCodes sr) noWrite (writeData (register op) (merged Byte (dataOf g (register op)) v))
 
--- 30. TPF with every condition: the words that it skips are not fetched. The manual: TPF is 51FA, 51FB and 51FC alone
+-- TPF, TPF.W, TPF.L: PC + 2 → PC, and past n bytes more, which are not fetched. Condition codes are not affected
+-- 30. With every condition. The manual: TPF is 51FA, 51FB and 51FC alone
 unfoldable pub tpf : ℕ → ℕ → ℕ → Change
 tpf n at sr = jump sr (plus at (2 + n))
 
@@ -60,14 +40,14 @@ tpf n at sr = jump sr (plus at (2 + n))
 
 unfoldable pub line5 : ℕ → List ℕ → ℕ → ℕ → Memory → ℕ → Change
 line5 row g at sr m op =
-    getD
-    (tpf 2 at sr ∷
-    tpf 4 at sr ∷
-    tpf 0 at sr ∷
-    addqAddress g at sr op ∷
-    addqAddress g at sr op ∷
-    addqAddress g at sr op ∷
-    scc g at sr op ∷
-    illegal at sr ∷
+    byRow (firstRow 5) row at sr
+    (tpf 2 at sr ∷  -- 60 TPF_W 50FA/F0FF
+    tpf 4 at sr ∷  -- 61 TPF_L 50FB/F0FF
+    tpf 0 at sr ∷  -- 62 TPF 50FC/F0FF
+    addqAddress g at sr op ∷  -- 63 ADDQ_AN_B 5008/F0F8
+    addqAddress g at sr op ∷  -- 64 ADDQ_AN_W 5048/F0F8
+    addqAddress g at sr op ∷  -- 65 ADDQ_AN_L 5088/F0F8
+    scc g at sr op ∷  -- 66 SCC 50C0/F0F8
+    illegal at sr ∷  -- 67 ILL_50C0 50C0/F0C0
+    addq g at m op ∷  -- 68 ADDQ 5000/F000
     [])
-    (placeIn (firstRow 5) row) (addq g at m op)

@@ -1,46 +1,36 @@
--- Line 7: MOVEQ, MVS and MVZ. The manual: the same names.
-use Prim.Native.Nat.{ℕ, _+_, _-_, _*_, _/_, _%_, _^_}
-use mathlib.Core.Bool.{Bool, true, false, cond, not}
-use mathlib.Core.List.{List, [], _∷_}
-use lib.Dec.{eqb, ltb}
-use lib.ListN.{getD}
-use Rattle.manual.specs.declared.Size.{Size}
-use Rattle.manual.specs.declared.Size.the-variants.{Byte, Word, Long}
-use Rattle.manual.specs.declared.Operand.{Operand}
-use Rattle.manual.specs.declared.Source.{Source}
-use Rattle.manual.specs.declared.Place.{Place}
-use Rattle.manual.specs.declared.Write.{Write}
-use Rattle.manual.specs.declared.Sum.{Sum}
-use Rattle.manual.specs.declared.Change.{Change}
-use Rattle.manual.specs.Word.{plus, signExtended, sizeOf}
-use Rattle.manual.specs.Registers.{noWrite, writeData}
-use Rattle.manual.specs.Flags.{moveCodes}
-use Rattle.manual.specs.Address.{source}
-use Rattle.manual.specs.Change.{done, reading}
-use Rattle.manual.specs.Memory.{Memory}
-use Rattle.instructions.specs.Rows.{firstRow, placeIn}
+-- Line 7: MOVEQ, MVS and MVZ.
+use Prim.Native.Nat.{ℕ}
+use mathlib.Core.{List.List, List.[], List._∷_}
+use Rattle.manual.specs.declared.{Size.Size, Size.the-variants.Byte, Size.the-variants.Long, Change.Change}
+use Rattle.manual.specs.{Word.plus, Word.signExtended, Registers.noWrite, Registers.writeData, Flags.moveCodes, Change.readingSource, Change.done, Memory.Memory, Fields.upper, Fields.byteOrWord}
+use Rattle.instructions.specs.{Rows.firstRow, Rows.byRow}
 
--- MOVEQ: the low byte, sign-extended
+-- MOVEQ.L #<data>,Dx: the low byte, sign-extended → Dx. N, Z of it; V, C cleared; X not affected
 unfoldable pub moveq : ℕ → ℕ → ℕ → Change
 moveq at sr op =
     let v : ℕ = signExtended Byte op in
-    done (plus at 2) (moveCodes Long v sr) noWrite (writeData (op / 512) v)
+    done (plus at 2) (moveCodes Long v sr) noWrite (writeData (upper op) v)
 
--- MVS and MVZ: a byte or, by bit 6, a word, sign-extended or not
+-- MVS <ea>y,Dx: source, sign-extended → Dx. N, Z of the result; V, C cleared; X not affected
+-- 48. MVS.B and MVZ.B take An. The manual: no byte access to An
 unfoldable pub mvs : List ℕ → ℕ → ℕ → Memory → ℕ → Change
 mvs g at sr m op =
-    let z : Size = sizeOf (op / 64 % 2) in
-    let from : Source = source g m (plus at 2) op z in
-    reading (from .got) λ v.
-    done (from .next) (moveCodes Long (signExtended z v) sr) (from .moved) (writeData (op / 512) (signExtended z v))
+    let z : Size = byteOrWord op in
+    readingSource g m (plus at 2) op z λ from v.
+    done (from .next) (moveCodes Long (signExtended z v) sr) (from .moved) (writeData (upper op) (signExtended z v))
 
+-- MVZ <ea>y,Dx: source, zero-extended → Dx. Z of the result; N, V, C cleared; X not affected
 unfoldable pub mvz : List ℕ → ℕ → ℕ → Memory → ℕ → Change
 mvz g at sr m op =
-    let from : Source = source g m (plus at 2) op (sizeOf (op / 64 % 2)) in
-    reading (from .got) λ v.
-    done (from .next) (moveCodes Long v sr) (from .moved) (writeData (op / 512) v)
+    readingSource g m (plus at 2) op (byteOrWord op) λ from v.
+    done (from .next) (moveCodes Long v sr) (from .moved) (writeData (upper op) v)
 
 -- ---- the rows of the line
 
 unfoldable pub line7 : ℕ → List ℕ → ℕ → ℕ → Memory → ℕ → Change
-line7 row g at sr m op = getD (mvs g at sr m op ∷ mvz g at sr m op ∷ []) (placeIn (firstRow 7) row) (moveq at sr op)
+line7 row g at sr m op =
+    byRow (firstRow 7) row at sr
+    (mvs g at sr m op ∷  -- 72 MVS 7100/F180
+    mvz g at sr m op ∷  -- 73 MVZ 7180/F180
+    moveq at sr op ∷  -- 74 MOVEQ 7000/F100
+    [])

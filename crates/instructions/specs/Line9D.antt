@@ -1,82 +1,68 @@
--- Lines 9 and D: SUB, SUBA, SUBX, ADD, ADDA, ADDX; and what line 5's ADDQ and SUBQ share with them. The manual: the same names.
-use Prim.Native.Nat.{ℕ, _+_, _-_, _*_, _/_, _%_, _^_}
-use mathlib.Core.Bool.{Bool, true, false, cond, not}
-use mathlib.Core.List.{List, [], _∷_}
-use lib.Dec.{eqb, ltb}
-use lib.ListN.{getD}
-use Rattle.manual.specs.declared.Size.{Size}
-use Rattle.manual.specs.declared.Size.the-variants.{Byte, Word, Long}
-use Rattle.manual.specs.declared.Source.{Source}
-use Rattle.manual.specs.declared.Destination.{Destination}
-use Rattle.manual.specs.declared.Write.{Write}
-use Rattle.manual.specs.declared.Sum.{Sum}
-use Rattle.manual.specs.declared.Change.{Change}
-use Rattle.manual.specs.Word.{plus, minus, merged, signExtended}
-use Rattle.manual.specs.Registers.{dataOf, addressOf, noWrite, writeData, writeAddress, written}
-use Rattle.manual.specs.Flags.{flagX, keptCodes, sumCodes, extendedCodes, sumOrDifference}
-use Rattle.manual.specs.Address.{source, destination, fetch}
-use Rattle.manual.specs.Change.{done, reading, putTo, illegal}
-use Rattle.manual.specs.Differences.{anySize}
-use Rattle.manual.specs.Memory.{Memory}
-use Rattle.instructions.specs.Rows.{firstRow, placeIn}
+-- Lines 9 and D: SUB, SUBA, SUBX, ADD, ADDA, ADDX; and what line 5's ADDQ and SUBQ share with them.
+use Prim.Native.Nat.{ℕ}
+use mathlib.Core.{Bool.Bool, Bool.true, Bool.false, Bool.cond, List.List, List.[], List._∷_}
+use Rattle.manual.specs.declared.{Size.Size, Size.the-variants.Word, Size.the-variants.Long, Sum.Sum, Change.Change}
+use Rattle.manual.specs.{Word.plus, Word.minus, Word.merged, Word.signExtended, Registers.dataOf, Registers.addressOf, Registers.noWrite, Registers.writeData, Registers.writeAddress, Registers.written, Flags.flagX, Flags.keptCodes}
+use Rattle.manual.specs.{Flags.sumCodes, Flags.extendedCodes, Flags.sumOrDifference, Change.readingSource, Change.done, Change.illegal, Change.updating, Change.result, Differences.anySize, Memory.Memory, Fields.upper, Fields.register}
+use Rattle.instructions.specs.{Rows.firstRow, Rows.byRow}
 
--- ADD <ea>,Dn and SUB <ea>,Dn
+-- ADD <ea>y,Dx: source + Dx → Dx. SUB <ea>y,Dx: Dx - source → Dx. X and C carry or borrow; N, Z of the result; V overflow
 unfoldable pub addToData : Bool → List ℕ → ℕ → Memory → ℕ → Change
 addToData add g at m op =
     let z : Size = anySize op in
-    let from : Source = source g m (plus at 2) op z in
-    let old : ℕ = dataOf g (op / 512) in
-    reading (from .got) λ v.
+    let old : ℕ = dataOf g (upper op) in
+    readingSource g m (plus at 2) op z λ from v.
     let r : Sum = sumOrDifference add z v old false in
-    done (from .next) (sumCodes r) (from .moved) (writeData (op / 512) (merged z old (r .value)))
+    done (from .next) (sumCodes r) (from .moved) (writeData (upper op) (merged z old (r .value)))
 
--- a number is added to a place or taken from it: ADD Dn,<ea> and SUB Dn,<ea>, ADDQ and SUBQ
+-- a number is added to a place or taken from it. X, N, Z, V, C as before
 unfoldable pub addToPlace : Bool → Size → List ℕ → ℕ → Memory → ℕ → ℕ → Change
 addToPlace add z g at m op n =
-    let to : Destination = destination g m (plus at 2) op z in
-    reading (fetch g m (to .place) z) λ v.
+    updating g m (plus at 2) op z λ v.
     let r : Sum = sumOrDifference add z n v false in
-    putTo g (sumCodes r) to z (r .value)
+    result (sumCodes r) (r .value)
 
+-- ADD Dy,<ea>x: Dy + destination → destination. SUB Dy,<ea>x: destination - Dy → destination
 unfoldable pub addToMemory : Bool → List ℕ → ℕ → Memory → ℕ → Change
-addToMemory add g at m op = addToPlace add (anySize op) g at m op (dataOf g (op / 512))
+addToMemory add g at m op = addToPlace add (anySize op) g at m op (dataOf g (upper op))
 
 -- a long is added to another or taken from it
 unfoldable pub moreOrLess : Bool → ℕ → ℕ → ℕ
 moreOrLess add old v = cond add (plus old v) (minus old v)
 
--- ADDA and SUBA: the source sign-extended, all 32 bits of An as the source's move left it, and no condition codes
+-- ADDA <ea>y,Ax: source, sign-extended, + Ax → Ax, Ax as the source's move left it. SUBA: Ax - source. Condition codes are not affected
+-- 23. ADDA.W and SUBA.W too. The manual: long only
 unfoldable pub adda : Bool → Size → List ℕ → ℕ → ℕ → Memory → ℕ → Change
 adda add z g at sr m op =
-    let from : Source = source g m (plus at 2) op z in
-    reading (from .got) λ v.
-    let old : ℕ = addressOf (written (from .moved) g) (op / 512) in
-    done (from .next) (keptCodes sr) (from .moved) (writeAddress (op / 512) (moreOrLess add old (signExtended z v)))
+    readingSource g m (plus at 2) op z λ from v.
+    let old : ℕ = addressOf (written (from .moved) g) (upper op) in
+    done (from .next) (keptCodes sr) (from .moved) (writeAddress (upper op) (moreOrLess add old (signExtended z v)))
 
--- ADDX and SUBX Dy,Dx
+-- ADDX Dy,Dx: Dy + Dx + X → Dx. SUBX Dy,Dx: Dx - Dy - X → Dx. X, N, V, C as ADD or SUB; Z cleared if nonzero, else kept
 unfoldable pub addx : Bool → List ℕ → ℕ → ℕ → ℕ → Change
 addx add g at sr op =
     let z : Size = anySize op in
-    let old : ℕ = dataOf g (op / 512) in
-    let r : Sum = sumOrDifference add z (dataOf g op) old (flagX sr) in
-    done (plus at 2) (extendedCodes sr r) noWrite (writeData (op / 512) (merged z old (r .value)))
+    let old : ℕ = dataOf g (upper op) in
+    let r : Sum = sumOrDifference add z (dataOf g (register op)) old (flagX sr) in
+    done (plus at 2) (extendedCodes sr r) noWrite (writeData (upper op) (merged z old (r .value)))
 
 -- ---- the rows of the lines
 
+-- line 9 and line D have the same rows, SUB's and ADD's
 unfoldable pub sums : ℕ → Bool → ℕ → List ℕ → ℕ → ℕ → Memory → ℕ → Change
 sums first add row g at sr m op =
-    getD
-    (addx add g at sr op ∷
-    addx add g at sr op ∷
-    addx add g at sr op ∷
-    illegal at sr ∷
-    illegal at sr ∷
-    illegal at sr ∷
-    adda add Word g at sr m op ∷
-    adda add Long g at sr m op ∷
-    addToData add g at m op ∷
+    byRow first row at sr
+    (addx add g at sr op ∷  -- 76 SUBX_B 9100/F1F8, 107 ADDX_B D100/F1F8
+    addx add g at sr op ∷  -- 77 SUBX_W 9140/F1F8, 108 ADDX_W D140/F1F8
+    addx add g at sr op ∷  -- 78 SUBX_L 9180/F1F8, 109 ADDX_L D180/F1F8
+    illegal at sr ∷  -- 79 SUB_ILL_B 9108/F1F8, 110 ADD_ILL_B D108/F1F8
+    illegal at sr ∷  -- 80 SUB_ILL_W 9148/F1F8, 111 ADD_ILL_W D148/F1F8
+    illegal at sr ∷  -- 81 SUB_ILL_L 9188/F1F8, 112 ADD_ILL_L D188/F1F8
+    adda add Word g at sr m op ∷  -- 82 SUBA_W 90C0/F1C0, 113 ADDA_W D0C0/F1C0
+    adda add Long g at sr m op ∷  -- 83 SUBA_L 91C0/F1C0, 114 ADDA_L D1C0/F1C0
+    addToData add g at m op ∷  -- 84 SUB_DN 9000/F100, 115 ADD_DN D000/F100
+    addToMemory add g at m op ∷  -- 85 SUB_MEM 9100/F100, 116 ADD_MEM D100/F100
     [])
-    (placeIn first row) (addToMemory add g at m op)
 
 abbrev pub line9 : ℕ → List ℕ → ℕ → ℕ → List ℕ → ℕ → Change
 line9 = sums (firstRow 9) false

@@ -1,73 +1,53 @@
--- Line A: the EMAC's instructions and MOV3Q. The manual: MAC, MSAC, MOVE to and from ACC, ACCext, MACSR and MASK, MOVCLR, MOV3Q.
-use Prim.Native.Nat.{ℕ, _+_, _-_, _*_, _/_, _%_, _^_}
-use mathlib.Core.Bool.{Bool, true, false, cond, not}
-use mathlib.Core.List.{List, [], _∷_}
-use lib.Dec.{eqb, ltb}
-use lib.ListN.{getD}
-use Rattle.manual.specs.declared.Size.{Size}
-use Rattle.manual.specs.declared.Size.the-variants.{Byte, Word, Long}
-use Rattle.manual.specs.declared.Source.{Source}
-use Rattle.manual.specs.declared.Write.{Write}
-use Rattle.manual.specs.declared.Sum.{Sum}
-use Rattle.manual.specs.declared.Change.{Change}
-use lib.Bits.{bitAnd}
-use Rattle.manual.specs.declared.Emac.{Emac}
-use Rattle.manual.specs.declared.EmacPart.{EmacPart}
-use Rattle.manual.specs.declared.EmacPart.the-variants.{Acc, Ext, Macsr, Mask}
-use Rattle.manual.specs.declared.Action.{Action}
-use Rattle.manual.specs.declared.Action.the-variants.{Nothing, Accumulate, SetAcc, SetExt, SetMacsr, SetMask, CopyAcc, ClearAcc}
-use Rattle.manual.specs.Word.{plus, minus, signExtended}
-use Rattle.manual.specs.Registers.{addressOf, general, noWrite, writeAddress, writeGeneral}
-use Rattle.manual.specs.Flags.{codes, moveCodes, keptCodes}
-use Rattle.manual.specs.Memory.{Memory, load}
-use Rattle.manual.specs.Address.{operand, extension, source, moved, locate, destination}
-use Rattle.manual.specs.Change.{done, acting, enter, enterAfter, notCarried, reading, put, putTo}
-use Rattle.manual.specs.Emac.{has, modeOf, accOf, readAcc, readExt}
-use Rattle.instructions.specs.Rows.{firstRow, placeIn}
+-- Line A: the EMAC's instructions and MOV3Q.
+use Prim.Native.Nat.{ℕ, _+_, _-_, _*_}
+use mathlib.Core.{Bool.false, Bool.cond, List.List, List.[], List._∷_}
+use lib.{Dec.eqb, Dec.ltb, Bits.bitAnd}
+use Rattle.manual.specs.declared.{Size.the-variants.Word, Size.the-variants.Long, Write.Write, Change.Change, Emac.Emac, EmacPart.EmacPart, EmacPart.the-variants.Acc, EmacPart.the-variants.Ext, EmacPart.the-variants.Macsr}
+use Rattle.manual.specs.declared.{EmacPart.the-variants.Mask, Action.Action, Action.the-variants.Nothing, Action.the-variants.Accumulate, Action.the-variants.SetAcc, Action.the-variants.SetExt, Action.the-variants.SetMacsr}
+use Rattle.manual.specs.declared.{Action.the-variants.SetMask, Action.the-variants.CopyAcc, Action.the-variants.ClearAcc}
+use Rattle.manual.specs.{Word.plus, Word.minus, Word.signExtended, Bits.bitOf, Registers.addressOf, Registers.general, Registers.noWrite, Registers.writeAddress, Registers.writeGeneral, Flags.codes, Flags.moveCodes, Flags.keptCodes}
+use Rattle.manual.specs.{Memory.Memory, Memory.load, Address.moved, Address.destination, Change.readingSource, Change.done, Change.acting, Change.enter, Change.enterAfter, Change.notCarried, Change.reading, Change.putTo}
+use Rattle.manual.specs.{Emac.modeOf, Emac.accOf, Emac.readAcc, Emac.readExt, Emac.fractional, Fields.upper, Fields.mode, Fields.register, Fields.lowFour, Fields.highFour, Fields.sourceAcc, Fields.accField, Fields.extField}
+use Rattle.manual.specs.{Fields.macRegister, Fields.bits, Fields.wordOperands}
+use Rattle.instructions.specs.{Rows.firstRow, Rows.byRow}
 
--- MOVE MACSR,CCR: N, Z and V; X and C are cleared
+-- MOVE.L MACSR,CCR: MACSR's N, Z, V → N, Z, V; X, C cleared
 unfoldable pub moveMacsrToCcr : ℕ → ℕ → Change
-moveMacsrToCcr at macsr = done (plus at 2) (codes false (has macsr 3) (has macsr 2) (has macsr 1) false) noWrite noWrite
+moveMacsrToCcr at macsr = done (plus at 2) (codes false (bitOf 3 macsr) (bitOf 2 macsr) (bitOf 1 macsr) false) noWrite noWrite
 
--- MOVE from MACSR, MASK or an accumulator's extension to Rx
+-- MOVE.L MACSR,Rx; MASK,Rx; ACCext01,Rx; ACCext23,Rx: source → Rx. Condition codes are not affected
 unfoldable pub moveToGeneral : ℕ → ℕ → ℕ → ℕ → Change
-moveToGeneral at sr op v = done (plus at 2) (keptCodes sr) noWrite (writeGeneral op v)
+moveToGeneral at sr op v = done (plus at 2) (keptCodes sr) noWrite (writeGeneral (lowFour op) v)
 
--- the even accumulator of ACCext01 and ACCext23
-abbrev pub extPair : ℕ → ℕ
-extPair op = op / 0x400 % 2 * 2
-
-abbrev pub accNumber : ℕ → ℕ
-accNumber op = op / 512 % 4
-
--- MOVE ACCy,Rx; MOVCLR, by bit 6, clears the accumulator after it
+-- MOVE.L ACCy,Rx: ACCy, rounded and saturated as the mode says → Rx. MOVCLR.L, where bit 6 is set: 0 → ACCy and PAVy after it.
+-- Condition codes are not affected
 unfoldable pub moveFromAcc : ℕ → ℕ → Emac → ℕ → Change
 moveFromAcc at sr e op =
-    let v : ℕ = readAcc (modeOf (e .macsr)) (accOf e (accNumber op)) in
-    acting sr (plus at 2) (writeGeneral op v) (cond (eqb (op / 64 % 2) 1) (ClearAcc (accNumber op)) Nothing)
+    let v : ℕ = readAcc (modeOf (e .macsr)) (accOf e (accField op)) in
+    acting sr (plus at 2) (writeGeneral (lowFour op) v) (cond (bitOf 6 op) (ClearAcc (accField op)) Nothing)
 
--- MOVE ACCy,ACCx
+-- MOVE.L ACCy,ACCx: ACCy → ACCx. MACSR's N, Z, V, EV and PAVx; condition codes are not affected
 unfoldable pub moveAccToAcc : ℕ → ℕ → ℕ → Change
-moveAccToAcc at sr op = acting sr (plus at 2) noWrite (CopyAcc (op % 4) (accNumber op))
+moveAccToAcc at sr op = acting sr (plus at 2) noWrite (CopyAcc (sourceAcc op) (accField op))
 
--- MOVE to ACCx, ACCext, MACSR and MASK
+-- MOVE.L <ea>y,ACCx; ACCext01; ACCext23; MACSR; MASK: source → it. Condition codes are not affected
 unfoldable pub setting : EmacPart → ℕ → ℕ → Action
-setting Acc op v = SetAcc (accNumber op) v
-setting Ext op v = SetExt (extPair op) v
+setting Acc op v = SetAcc (accField op) v
+setting Ext op v = SetExt (extField op) v
 setting Macsr op v = SetMacsr v
 setting Mask op v = SetMask v
 
 -- 40. From every mode. The manual: from a register or an immediate
 unfoldable pub moveToEmac : EmacPart → List ℕ → ℕ → ℕ → Memory → ℕ → Change
 moveToEmac part g at sr m op =
-    let from : Source = source g m (plus at 2) op Long in
-    reading (from .got) λ v.
+    readingSource g m (plus at 2) op Long λ from v.
     acting sr (from .next) (from .moved) (setting part op v)
 
--- MOV3Q: 1 to 7, or -1 for 0
+-- MOV3Q.L #<data>,<ea>x: 1 to 7, or -1 for 0 → destination. N, Z of it; V, C cleared; X not affected
 unfoldable pub threeBits : ℕ → ℕ
-threeBits op = cond (eqb (op / 512 % 8) 0) 0xFFFF_FFFF (op / 512 % 8)
+threeBits op = cond (eqb (upper op) 0) 0xFFFF_FFFF (upper op)
 
+-- 51. To immediates and places relative to the program counter too. The manual: vector 10
 unfoldable pub mov3q : List ℕ → ℕ → ℕ → Memory → ℕ → Change
 mov3q g at sr m op =
     let v : ℕ = threeBits op in
@@ -76,36 +56,38 @@ mov3q g at sr m op =
 -- 14. A word of the line with no row of its own reads a long operand first. The manual: vector 10, and no operand
 unfoldable pub unassigned : List ℕ → ℕ → ℕ → Memory → ℕ → Change
 unassigned g at sr m op =
-    let from : Source = source g m (plus at 2) op Long in
-    reading (from .got) λ v.
+    readingSource g m (plus at 2) op Long λ from v.
     enterAfter (from .moved) sr 10 at
 
--- ---- MAC and MSAC
+-- ---- MAC.L Ry,Rx,ACCx: ACCx + Ry * Rx, scaled → ACCx. MSAC.L: ACCx - it. With a load, <ea>y → Rw at the same time.
+-- MACSR's N, Z, V, EV and PAVx; condition codes are not affected
 
--- the register that bits 6 and 11 to 9 name
-abbrev pub highRegister : ℕ → ℕ
-highRegister op = op / 64 % 2 * 8 + op / 512 % 8
-
--- the scale factor and the sign of the second word
+-- the scale factor, and the sign that the second word says
 abbrev pub accumulating : ℕ → ℕ → ℕ → ℕ → Action
-accumulating w i x y = Accumulate i (w / 512 % 4) (eqb (w / 256 % 2) 1) x y
+accumulating w i x y = Accumulate i (bits 10 9 w) (bitOf 8 w) x y
 
 -- two registers, w being the second word. The accumulator's low bit is bit 7, and its high bit is bit 4 of w
+-- 41. Bits 3 to 0 of w are not looked at. The manual: on an EMAC_B they say a dual accumulation
 unfoldable pub macRegisters : List ℕ → ℕ → ℕ → ℕ → ℕ → Change
 macRegisters g at sr op w =
     acting sr (plus at 4) noWrite
-    (accumulating w (op / 128 % 2 + w / 16 % 2 * 2) (general g (highRegister op)) (general g op))
+    (accumulating w (bits 7 7 op + bits 4 4 w * 2) (general g (macRegister op)) (general g (lowFour op)))
 
--- where (An)+ and -(An) leave their register, the operand being at a
+-- where (An)+, mode 3, and -(An), mode 4, leave their register, the operand being at a
+-- 35. (An)+ goes on from the masked address. The manual: An + 4, which is then masked
 unfoldable pub loadMoves : ℕ → ℕ → Write
 loadMoves op a =
-    getD (noWrite ∷ noWrite ∷ noWrite ∷ writeAddress op (plus a 4) ∷ writeAddress op a ∷ []) (op / 8 % 8) noWrite
+    cond (eqb (mode op) 3) (writeAddress (register op) (plus a 4))
+    (cond (eqb (mode op) 4) (writeAddress (register op) a) noWrite)
 
--- 35. Bit 5 of w masks the address, and (An)+ goes on from the masked one. The manual: An is read as it is, and An + 4 is masked
+-- bit 5 of w: the address and MASK
+-- 35. Of (An)+ too. The manual: An is read as it is
+-- 43. All bits of MASK count. The manual: bits 31 to 16 are ones, and a write keeps them so
 unfoldable pub loadAddress : ℕ → ℕ → ℕ → ℕ
-loadAddress mask w base = cond (eqb (w / 32 % 2) 1) (bitAnd base mask) base
+loadAddress mask w base = cond (bitOf 5 w) (bitAnd base mask) base
 
--- with a load, the low bit of the accumulator's number is inverted. The address register is written after the loaded one
+-- with a load, the low bit of the accumulator's number is inverted
+-- 56. The address register is written after the loaded one, which it may be. The manual does not say
 unfoldable pub macLoad : List ℕ → ℕ → ℕ → ℕ → Memory → ℕ → ℕ → ℕ → Change
 macLoad g next sr mask m op w base =
     let a : ℕ = loadAddress mask w base in
@@ -113,46 +95,46 @@ macLoad g next sr mask m op w base =
     record {
       pc = next;
       ccr = keptCodes sr;
-      first = writeGeneral (highRegister op) v;
+      first = writeGeneral (macRegister op) v;
       second = loadMoves op a;
-      action = accumulating w (1 - op / 128 % 2 + w / 16 % 2 * 2) (general g (w / 0x1000)) (general g w);
+      action = accumulating w (1 - bits 7 7 op + bits 4 4 w * 2) (general g (highFour w)) (general g (lowFour w));
     }
 
--- modes 2 to 5; modes 6 and 7 are no instruction of the line. Word operands, bit 11 of w clear, are not carried
+-- modes 2 to 5; modes 6 and 7 are no instruction of the line. Word operands are not carried
 unfoldable pub macWithLoad : List ℕ → ℕ → ℕ → ℕ → Memory → ℕ → ℕ → Change
 macWithLoad g at sr mask m op w =
-    let mode : ℕ = op / 8 % 8 in
-    let a : ℕ = addressOf g op in
-    cond (ltb 5 mode) (enter sr 10 at)
-    (cond (eqb (w / 0x800 % 2) 0) notCarried
-    (cond (eqb mode 5)
+    let a : ℕ = addressOf g (register op) in
+    cond (ltb 5 (mode op)) (enter sr 10 at)
+    (cond (wordOperands w) notCarried
+    (cond (eqb (mode op) 5)
     (reading (load m (plus at 4) Word) λ d.
     macLoad g (plus at 6) sr mask m op w (plus a (signExtended Word d)))
-    (macLoad g (plus at 4) sr mask m op w (cond (eqb mode 4) (minus a 4) a))))
+    (macLoad g (plus at 4) sr mask m op w (cond (eqb (mode op) 4) (minus a 4) a))))
 
+-- modes 0 and 1 are the form without a load
 unfoldable pub mac : List ℕ → ℕ → ℕ → ℕ → Memory → ℕ → Change
 mac g at sr mask m op =
     reading (load m (plus at 2) Word) λ w.
-    cond (eqb (op / 16 % 4) 0)
-    (cond (eqb (w / 0x800 % 2) 0) notCarried (macRegisters g at sr op w))
+    cond (eqb (bits 5 4 op) 0)
+    (cond (wordOperands w) notCarried (macRegisters g at sr op w))
     (macWithLoad g at sr mask m op w)
 
 -- ---- the rows of the line
 
 unfoldable pub lineA : ℕ → List ℕ → ℕ → ℕ → Emac → Memory → ℕ → Change
 lineA row g at sr e m op =
-    getD
-    (moveMacsrToCcr at (e .macsr) ∷
-    moveAccToAcc at sr op ∷
-    moveToGeneral at sr op (e .macsr) ∷
-    moveToGeneral at sr op (e .mask) ∷
-    moveToGeneral at sr op (readExt (has (e .macsr) 5) e (extPair op)) ∷
-    moveToEmac Macsr g at sr m op ∷
-    moveToEmac Mask g at sr m op ∷
-    moveFromAcc at sr e op ∷
-    moveToEmac Ext g at sr m op ∷
-    moveToEmac Acc g at sr m op ∷
-    mov3q g at sr m op ∷
-    mac g at sr (e .mask) m op ∷
+    byRow (firstRow 0xA) row at sr
+    (moveMacsrToCcr at (e .macsr) ∷  -- 86 MACSR_CCR A9C0/FFFF
+    moveAccToAcc at sr op ∷  -- 87 COPY_ACC A110/F9FC
+    moveToGeneral at sr op (e .macsr) ∷  -- 88 READ_MACSR A980/FFF0
+    moveToGeneral at sr op (e .mask) ∷  -- 89 READ_MASK AD80/FFF0
+    moveToGeneral at sr op (readExt (fractional (e .macsr)) e (extField op)) ∷  -- 90 READ_ACCEXT AB80/FBF0
+    moveToEmac Macsr g at sr m op ∷  -- 91 WRITE_MACSR A900/FFC0
+    moveToEmac Mask g at sr m op ∷  -- 92 WRITE_MASK AD00/FFC0
+    moveFromAcc at sr e op ∷  -- 93 READ_ACC A180/F9B0
+    moveToEmac Ext g at sr m op ∷  -- 94 WRITE_ACCEXT AB00/FBC0
+    moveToEmac Acc g at sr m op ∷  -- 95 WRITE_ACC A100/F9C0
+    mov3q g at sr m op ∷  -- 96 MOV3Q A140/F1C0
+    mac g at sr (e .mask) m op ∷  -- 97 MAC A000/F100
+    unassigned g at sr m op ∷  -- 98 LINEA A100/F100
     [])
-    (placeIn (firstRow 0xA) row) (unassigned g at sr m op)

@@ -1,58 +1,42 @@
--- Line B: CMP, CMPA and EOR, and what the logic instructions of other lines share with EOR. The manual: the same names.
-use Prim.Native.Nat.{ℕ, _+_, _-_, _*_, _/_, _%_, _^_}
-use mathlib.Core.Bool.{Bool, true, false, cond, not}
-use mathlib.Core.List.{List, [], _∷_}
-use lib.Dec.{eqb, ltb}
-use lib.ListN.{getD}
-use Rattle.manual.specs.declared.Size.{Size}
-use Rattle.manual.specs.declared.Size.the-variants.{Byte, Word, Long}
-use Rattle.manual.specs.declared.Source.{Source}
-use Rattle.manual.specs.declared.Destination.{Destination}
-use Rattle.manual.specs.declared.Write.{Write}
-use Rattle.manual.specs.declared.Sum.{Sum}
-use Rattle.manual.specs.declared.Change.{Change}
-use Rattle.manual.specs.declared.Logic.{Logic}
-use Rattle.manual.specs.declared.Logic.the-variants.{Eor}
-use Rattle.manual.specs.Word.{plus, signExtended, sizeOf}
-use Rattle.manual.specs.Bits.{logic}
-use Rattle.manual.specs.Registers.{dataOf, addressOf, noWrite, written}
-use Rattle.manual.specs.Flags.{moveCodes, compareCodes, subtracted}
-use Rattle.manual.specs.Address.{source, destination, fetch}
-use Rattle.manual.specs.Change.{done, reading, putTo}
-use Rattle.manual.specs.Differences.{anySize}
-use Rattle.manual.specs.Memory.{Memory}
-use Rattle.instructions.specs.Rows.{firstRow, placeIn}
+-- Line B: CMP, CMPA and EOR, and what the logic instructions of other lines share with EOR.
+use Prim.Native.Nat.{ℕ}
+use mathlib.Core.{Bool.false, List.List, List.[], List._∷_}
+use Rattle.manual.specs.declared.{Size.Size, Size.the-variants.Word, Size.the-variants.Long, Sum.Sum, Change.Change, Logic.Logic, Logic.the-variants.Eor}
+use Rattle.manual.specs.{Word.plus, Word.signExtended, Bits.logic, Registers.dataOf, Registers.addressOf, Registers.noWrite, Registers.written, Flags.moveCodes, Flags.compareCodes, Flags.subtracted, Change.readingSource, Change.done}
+use Rattle.manual.specs.{Change.updating, Change.result, Differences.anySize, Memory.Memory, Fields.upper, Fields.sizeField}
+use Rattle.instructions.specs.{Rows.firstRow, Rows.byRow}
 
--- CMP <ea>,Dn
+-- CMP <ea>y,Dx: Dx - source. N, Z, V, C of it; X not affected
 unfoldable pub cmp : List ℕ → ℕ → ℕ → Memory → ℕ → Change
 cmp g at sr m op =
-    let z : Size = sizeOf (op / 64) in
-    let from : Source = source g m (plus at 2) op z in
-    reading (from .got) λ v.
-    done (from .next) (compareCodes sr (subtracted z v (dataOf g (op / 512)) false)) (from .moved) noWrite
+    let z : Size = sizeField op in
+    readingSource g m (plus at 2) op z λ from v.
+    done (from .next) (compareCodes sr (subtracted z v (dataOf g (upper op)) false)) (from .moved) noWrite
 
--- CMPA <ea>,An: the source sign-extended, all 32 bits of An as the source's move left it
+-- CMPA <ea>y,Ax: Ax - source, sign-extended, Ax as the source's move left it. N, Z, V, C of it; X not affected
 unfoldable pub cmpa : Size → List ℕ → ℕ → ℕ → Memory → ℕ → Change
 cmpa z g at sr m op =
-    let from : Source = source g m (plus at 2) op z in
-    reading (from .got) λ v.
-    let r : Sum = subtracted Long (signExtended z v) (addressOf (written (from .moved) g) (op / 512)) false in
+    readingSource g m (plus at 2) op z λ from v.
+    let r : Sum = subtracted Long (signExtended z v) (addressOf (written (from .moved) g) (upper op)) false in
     done (from .next) (compareCodes sr r) (from .moved) noWrite
 
--- AND Dn,<ea> and EOR Dn,<ea>
--- 24. To An, the low part of An is combined with all of Dn, and all 32 bits are stored. The manual: no such form
+-- AND, EOR Dy,<ea>x: Dy op destination → destination. N, Z of the result; V, C cleared; X not affected
+-- 24. To An: its low part is combined with all of Dy, and all 32 bits are stored. The manual: no such form
+-- 25. AND to Dx takes this form too. The manual: no such form
 unfoldable pub logicToPlace : Logic → List ℕ → ℕ → ℕ → Memory → ℕ → Change
 logicToPlace l g at sr m op =
     let z : Size = anySize op in
-    let to : Destination = destination g m (plus at 2) op z in
-    reading (fetch g m (to .place) z) λ v.
-    let r : ℕ = logic l v (dataOf g (op / 512)) in
-    putTo g (moveCodes z r sr) to z r
+    updating g m (plus at 2) op z λ v.
+    let r : ℕ = logic l v (dataOf g (upper op)) in
+    result (moveCodes z r sr) r
 
 -- ---- the rows of the line
 
 unfoldable pub lineB : ℕ → List ℕ → ℕ → ℕ → Memory → ℕ → Change
 lineB row g at sr m op =
-    getD
-    (cmpa Word g at sr m op ∷ cmpa Long g at sr m op ∷ cmp g at sr m op ∷ [])
-    (placeIn (firstRow 0xB) row) (logicToPlace Eor g at sr m op)
+    byRow (firstRow 0xB) row at sr
+    (cmpa Word g at sr m op ∷  -- 99 CMPA_W B0C0/F1C0
+    cmpa Long g at sr m op ∷  -- 100 CMPA_L B1C0/F1C0
+    cmp g at sr m op ∷  -- 101 CMP B000/F100
+    logicToPlace Eor g at sr m op ∷  -- 102 EOR B100/F100
+    [])

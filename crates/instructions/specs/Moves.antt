@@ -1,54 +1,42 @@
--- Lines 1, 2 and 3: MOVE and MOVEA of a byte, a long and a word. The manual: MOVE, MOVEA.
-use Prim.Native.Nat.{ℕ, _+_, _-_, _*_, _/_, _%_, _^_}
-use mathlib.Core.Bool.{Bool, true, false, cond, not}
-use mathlib.Core.List.{List, [], _∷_}
-use lib.Dec.{eqb, ltb}
-use lib.ListN.{getD}
-use Rattle.manual.specs.declared.Size.{Size}
-use Rattle.manual.specs.declared.Size.the-variants.{Byte, Word, Long}
-use Rattle.manual.specs.declared.Operand.{Operand}
-use Rattle.manual.specs.declared.Operand.the-variants.{Immediate}
-use Rattle.manual.specs.declared.Source.{Source}
-use Rattle.manual.specs.declared.Place.{Place}
-use Rattle.manual.specs.declared.Write.{Write}
-use Rattle.manual.specs.declared.Change.{Change}
-use Rattle.manual.specs.Word.{plus, signExtended, merged}
-use Rattle.manual.specs.Registers.{dataOf, writeData, writeAddress, written}
-use Rattle.manual.specs.Flags.{moveCodes, keptCodes}
-use Rattle.manual.specs.Address.{operand, extension, source, moved, locate}
-use Rattle.manual.specs.Change.{done, reading, put}
-use Rattle.manual.specs.Memory.{Memory}
-use Rattle.instructions.specs.Rows.{firstRow, placeIn}
+-- Lines 1, 2 and 3: MOVE and MOVEA of a byte, a long and a word.
+use Prim.Native.Nat.{ℕ}
+use mathlib.Core.{List.List, List.[], List._∷_}
+use Rattle.manual.specs.declared.{Size.Size, Size.the-variants.Byte, Size.the-variants.Word, Size.the-variants.Long, Change.Change, Destination.Destination}
+use Rattle.manual.specs.{Word.plus, Word.signExtended, Registers.writeAddress, Registers.written, Flags.moveCodes, Flags.keptCodes, Address.operand, Address.moved, Address.destinationOf, Change.readingSource, Change.done, Change.put}
+use Rattle.manual.specs.{Memory.Memory, Fields.upper, Fields.upperMode}
+use Rattle.instructions.specs.{Rows.firstRow, Rows.byRow}
 
--- the destination of a MOVE, with its extension words at pc and the registers after the source's move
-unfoldable pub moveTo : Size → List ℕ → ℕ → Memory → ℕ → Write → Operand → ℕ → Change
-moveTo z g sr m pc one o v =
-    put g (plus pc (extension o z)) (moveCodes z v sr) one (moved g o z) (locate g m pc o z) z v
-
--- MOVE: bits 5 to 0 name the source, bits 8 to 6 the destination's mode and 11 to 9 its register. Dn's other bits stay
+-- MOVE <ea>y,<ea>x: source → destination. N, Z of it; V, C cleared; X not affected. Bits 11 to 6 name the destination, whose extension
+-- words come after the source's and whose registers are those after the source's move
+-- 21. Every source goes with every destination. The manual: at most three words, and a list of pairs
 unfoldable pub move : Size → List ℕ → ℕ → ℕ → Memory → ℕ → Change
 move z g at sr m op =
-    let from : Source = source g m (plus at 2) op z in
-    let mode : ℕ = op / 64 % 8 in
-    reading (from .got) λ v.
-    cond (eqb mode 0)
-    (done (from .next) (moveCodes z v sr) (from .moved) (writeData (op / 512) (merged z (dataOf g (op / 512)) v)))
-    (moveTo z (written (from .moved) g) sr m (from .next) (from .moved) (operand mode (op / 512 % 8)) v)
+    readingSource g m (plus at 2) op z λ from v.
+    let h : List ℕ = written (from .moved) g in
+    let to : Destination = destinationOf h m (from .next) (operand (upperMode op) (upper op)) z in
+    put h z v (to .place) (done (to .next) (moveCodes z v sr) (from .moved) (to .moved))
 
--- MOVEA: the whole register, sign-extended, and no condition codes
+-- MOVEA <ea>y,Ax: source, sign-extended → Ax. Condition codes are not affected
+-- 22. A byte too. The manual: MOVEA.W and MOVEA.L alone
 unfoldable pub movea : Size → List ℕ → ℕ → ℕ → Memory → ℕ → Change
 movea z g at sr m op =
-    let from : Source = source g m (plus at 2) op z in
-    reading (from .got) λ v.
-    done (from .next) (keptCodes sr) (from .moved) (writeAddress (op / 512) (signExtended z v))
+    readingSource g m (plus at 2) op z λ from v.
+    done (from .next) (keptCodes sr) (from .moved) (writeAddress (upper op) (signExtended z v))
 
--- ---- the rows of the lines
+-- ---- the rows of the lines: each has the same two, of its size
 
-unfoldable pub line1 : ℕ → List ℕ → ℕ → ℕ → Memory → ℕ → Change
-line1 row g at sr m op = getD (movea Byte g at sr m op ∷ []) (placeIn (firstRow 1) row) (move Byte g at sr m op)
+unfoldable pub moves : ℕ → Size → ℕ → List ℕ → ℕ → ℕ → Memory → ℕ → Change
+moves first z row g at sr m op =
+    byRow first row at sr
+    (movea z g at sr m op ∷  -- 14 MOVEA_B 1040/F1C0, 16 MOVEA_L 2040/F1C0, 18 MOVEA_W 3040/F1C0
+    move z g at sr m op ∷  -- 15 MOVE_B 1000/F000, 17 MOVE_L 2000/F000, 19 MOVE_W 3000/F000
+    [])
 
-unfoldable pub line2 : ℕ → List ℕ → ℕ → ℕ → Memory → ℕ → Change
-line2 row g at sr m op = getD (movea Long g at sr m op ∷ []) (placeIn (firstRow 2) row) (move Long g at sr m op)
+abbrev pub line1 : ℕ → List ℕ → ℕ → ℕ → Memory → ℕ → Change
+line1 = moves (firstRow 1) Byte
 
-unfoldable pub line3 : ℕ → List ℕ → ℕ → ℕ → Memory → ℕ → Change
-line3 row g at sr m op = getD (movea Word g at sr m op ∷ []) (placeIn (firstRow 3) row) (move Word g at sr m op)
+abbrev pub line2 : ℕ → List ℕ → ℕ → ℕ → Memory → ℕ → Change
+line2 = moves (firstRow 2) Long
+
+abbrev pub line3 : ℕ → List ℕ → ℕ → ℕ → Memory → ℕ → Change
+line3 = moves (firstRow 3) Word

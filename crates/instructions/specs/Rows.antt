@@ -1,12 +1,9 @@
 -- The opcode rows: a value and its fixed bits each, and the row that a word takes. A row fits a word that has the row's value
 -- at the row's fixed bits; a word takes the row that fits it with the most fixed bits. The manual: "Instruction Set Summary" and "Opcode Map".
-use mathlib.Core.Path.{_≡_}
-use mathlib.Core.Bool.{Bool, true, false, cond}
-use mathlib.Core.List.{List, [], _∷_, _++_, map}
 use Prim.Native.Nat.{ℕ, zero, suc, _+_, _-_, _/_, _%_, _≤_, _<_}
-use lib.Bits.{bitAnd}
-use lib.Dec.{eqb, ltb}
-use lib.ListN.{length, getD, take}
+use mathlib.Core.{Path._≡_, Bool.true, Bool.false, Bool.cond, List.List, List.[], List._∷_, List._++_, List.map}
+use lib.{Bits.bitAnd, Dec.eqb, Dec.ltb, ListN.length, ListN.getD, ListN.take}
+use Rattle.manual.specs.{declared.Change.Change, Change.illegal}
 
 pub record Row : Type 0 where
   pub value : ℕ
@@ -272,3 +269,7 @@ rowOf w = firstFit (w % 0x1_0000) values masks
 -- the place of a row in a line whose first row is given; past every line's end where it is not of the line
 unfoldable pub placeIn : ℕ → ℕ → ℕ
 placeIn first r = cond (ltb r first) rowCount (r - first)
+
+-- a line's instruction by its row, the line's first row being given; a row of another line is illegal
+abbrev pub byRow : ℕ → ℕ → ℕ → ℕ → List Change → Change
+byRow first row at sr changes = getD changes (placeIn first row) (illegal at sr)

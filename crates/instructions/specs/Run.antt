@@ -1,14 +1,9 @@
 -- A run: as many steps as the budget says, or up to one that is refused. The first refusals come first at every budget.
-use Prim.Native.Nat.{ℕ, zero, suc, _+_}
-use mathlib.Core.Bool.{Bool, true, false, cond}
-use Rattle.manual.specs.declared.Cpu.{Cpu}
-use Rattle.manual.specs.declared.Ran.{Ran}
-use Rattle.manual.specs.declared.Reply.{Reply}
-use Rattle.manual.specs.declared.Reply.the-variants.{Done}
-use Rattle.manual.specs.Memory.{Storage}
-use Rattle.manual.specs.Reply.{Outcome, isDone}
-use Rattle.manual.specs.Lent.{Lent, lentOn, firstRefusal}
-use Rattle.instructions.specs.Step.{step}
+use Prim.Native.Nat.{ℕ, zero, suc}
+use mathlib.Core.{Bool.cond}
+use Rattle.manual.specs.declared.{Cpu.Cpu, Ran.Ran, Reply.Reply, Reply.the-variants.Done}
+use Rattle.manual.specs.{Memory.Storage, Reply.Outcome, Reply.isDone, Lent.Lent, Lent.lentOn, Lent.firstRefusal}
+use Rattle.instructions.specs.{Step.step}
 
 -- a run's answer, and storage after it
 pub record RunOutcome : Type 0 where

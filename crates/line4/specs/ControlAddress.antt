@@ -50,9 +50,9 @@ goes g at sr m op f =
     (control g m (plus at 2) (operand (op / 8 % 8) (op % 8))) f
 
 module _ (g : List ℕ) (at sr : ℕ) (m : Memory) (op : ℕ) where
-  pub lea-goes : lea g at sr m op ≡ along (controlAddress g at sr m op) (λ a next. done next (keptCodes sr) noWrite (writeAddress (op / 512) a))
+  pub lea-goes : lea g at sr m op ≡ along (controlAddress g at sr m op) (λ a next. done next (keptCodes sr) noWrite (writeAddress (op / 512 % 8) a))
   unfolding lea
-  lea-goes = goes g at sr m op (λ a next. done next (keptCodes sr) noWrite (writeAddress (op / 512) a))
+  lea-goes = goes g at sr m op (λ a next. done next (keptCodes sr) noWrite (writeAddress (op / 512 % 8) a))
 
   pub pea-goes : pea g at sr m op ≡ along (controlAddress g at sr m op) (λ a next. push g sr next a)
   unfolding pea

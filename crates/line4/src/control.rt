@@ -66,7 +66,7 @@ pub fn lea(g: &[u32; 16], at: u32, sr: u16, mem: &[u8], op: u32) -> Change
     let codes = kept_codes(sr);
     let none = no_write();
     match control_address(g, at, sr, mem, op) {
-        Way::To(a, next) => done(next, codes, none, write_address(op / 512, a)),
+        Way::To(a, next) => done(next, codes, none, write_address(op / 512 % 8, a)),
         Way::Ends(e) => e,
     }
 }
@@ -135,16 +135,16 @@ pub fn link(g: &[u32; 16], at: u32, sr: u16, mem: &[u8], op: u32) -> Change
     };
     let next = plus(pc, 2);
     let codes = kept_codes(sr);
-    let frame = write_address(op, sp);
+    let frame = write_address(op % 8, sp);
     let top = write_address(7, plus(sp, sign_extended(Size::Word, d)));
-    store(next, codes, frame, top, sp, Size::Long, address(g, op))
+    store(next, codes, frame, top, sp, Size::Long, address(g, op % 8))
 }
 
 // UNLK: the stack pointer is An, and An is popped.
 pub fn unlk(g: &[u32; 16], at: u32, sr: u16, mem: &[u8], op: u32) -> Change
     ensures { λ e. ⌜ e ≡ unlkOf (now (g .entry)) at sr (mapped (now (mem .entry))) op ⌝ }
 {
-    let a = address(g, op);
+    let a = address(g, op % 8);
     let v = match load(mem, a, Size::Long) {
         Got::Value(v) => v,
         Got::Fault(x) => return refused(x),
@@ -152,7 +152,7 @@ pub fn unlk(g: &[u32; 16], at: u32, sr: u16, mem: &[u8], op: u32) -> Change
     let next = plus(at, 2);
     let codes = kept_codes(sr);
     let top = write_address(7, plus(a, 4));
-    done(next, codes, top, write_address(op, v))
+    done(next, codes, top, write_address(op % 8, v))
 }
 
 fn many(storing: bool, sr: u16, next: u32, mask: u32, a: u32) -> Change
@@ -171,7 +171,7 @@ pub fn movem(storing: bool, g: &[u32; 16], at: u32, sr: u16, mem: &[u8], op: u32
     ensures { λ e. ⌜ e ≡ movemOf storing (now (g .entry)) at sr (mapped (now (mem .entry))) op ⌝ }
 {
     let pc = plus(at, 2);
-    let a = address(g, op);
+    let a = address(g, op % 8);
     let mask = match load(mem, pc, Size::Word) {
         Got::Value(mask) => mask,
         Got::Fault(x) => return refused(x),

@@ -92,6 +92,7 @@ pub fn instruction(
         rows::CLR => clr(g, at, sr, mem, op),
         rows::TST => tst(g, at, sr, mem, op),
         rows::LEA => lea(g, at, sr, mem, op),
+        rows::ILL_4 => illegal(at, sr),
         _ => illegal(at, sr),
     }
 }

@@ -48,25 +48,25 @@ ghost use Rattle.instructions.specs.Line4.{extb as extbOf, extW, extL, swap as 
 
 // A long into Dn, with the condition codes of a move.
 fn replaced(at: u32, sr: u16, op: u32, v: u32) -> Change
-    ensures { λ e. ⌜ e ≡ doneOf (plusOf at 2) (moveCodes Long v sr) noWrite (writeData op v) ⌝ }
+    ensures { λ e. ⌜ e ≡ doneOf (plusOf at 2) (moveCodes Long v sr) noWrite (writeData (op % 8) v) ⌝ }
 {
     let next = plus(at, 2);
     let codes = move_codes(Size::Long, v, sr);
-    done(next, codes, no_write(), write_data(op, v))
+    done(next, codes, no_write(), write_data(op % 8, v))
 }
 
 // EXTB: a byte to a long.
 pub fn extb(g: &[u32; 16], at: u32, sr: u16, op: u32) -> Change
     ensures { λ e. ⌜ e ≡ extbOf (now (g .entry)) at sr op ⌝ }
 {
-    replaced(at, sr, op, sign_extended(Size::Byte, data(g, op)))
+    replaced(at, sr, op, sign_extended(Size::Byte, data(g, op % 8)))
 }
 
 // EXT.W: a byte to a word.
 pub fn ext_w(g: &[u32; 16], at: u32, sr: u16, op: u32) -> Change
     ensures { λ e. ⌜ e ≡ extW (now (g .entry)) at sr op ⌝ }
 {
-    let old = data(g, op);
+    let old = data(g, op % 8);
     let v = cut(Size::Word, sign_extended(Size::Byte, old));
     let next = plus(at, 2);
     let codes = move_codes(Size::Word, v, sr);
@@ -75,7 +75,7 @@ pub fn ext_w(g: &[u32; 16], at: u32, sr: u16, op: u32) -> Change
         next,
         codes,
         none,
-        write_data(op, merged(Size::Word, old, v)),
+        write_data(op % 8, merged(Size::Word, old, v)),
     )
 }
 
@@ -83,14 +83,14 @@ pub fn ext_w(g: &[u32; 16], at: u32, sr: u16, op: u32) -> Change
 pub fn ext_l(g: &[u32; 16], at: u32, sr: u16, op: u32) -> Change
     ensures { λ e. ⌜ e ≡ extL (now (g .entry)) at sr op ⌝ }
 {
-    replaced(at, sr, op, sign_extended(Size::Word, data(g, op)))
+    replaced(at, sr, op, sign_extended(Size::Word, data(g, op % 8)))
 }
 
 // SWAP: the two words change places.
 pub fn swap(g: &[u32; 16], at: u32, sr: u16, op: u32) -> Change
     ensures { λ e. ⌜ e ≡ swapOf (now (g .entry)) at sr op ⌝ }
 {
-    let old = data(g, op);
+    let old = data(g, op % 8);
     replaced(at, sr, op, old % 0x1_0000 * 0x1_0000 + old / 0x1_0000)
 }
 
@@ -112,36 +112,36 @@ fn saturated(sr: u16, v: u32) -> u32
 pub fn sats(g: &[u32; 16], at: u32, sr: u16, op: u32) -> Change
     ensures { λ e. ⌜ e ≡ satsOf (now (g .entry)) at sr op ⌝ }
 {
-    replaced(at, sr, op, saturated(sr, data(g, op)))
+    replaced(at, sr, op, saturated(sr, data(g, op % 8)))
 }
 
 // NEG: 0 less Dn.
 pub fn neg(g: &[u32; 16], at: u32, op: u32) -> Change
     ensures { λ e. ⌜ e ≡ negOf (now (g .entry)) at op ⌝ }
 {
-    let r = subtracted(Size::Long, data(g, op), 0, false);
+    let r = subtracted(Size::Long, data(g, op % 8), 0, false);
     let next = plus(at, 2);
     let codes = sum_codes(r);
     let none = no_write();
-    done(next, codes, none, write_data(op, r.value))
+    done(next, codes, none, write_data(op % 8, r.value))
 }
 
 // NEGX: 0 less Dn and X.
 pub fn negx(g: &[u32; 16], at: u32, sr: u16, op: u32) -> Change
     ensures { λ e. ⌜ e ≡ negxOf (now (g .entry)) at sr op ⌝ }
 {
-    let r = subtracted(Size::Long, data(g, op), 0, sr / 16 % 2 == 1);
+    let r = subtracted(Size::Long, data(g, op % 8), 0, sr / 16 % 2 == 1);
     let next = plus(at, 2);
     let codes = extended_codes(sr, r);
     let none = no_write();
-    done(next, codes, none, write_data(op, r.value))
+    done(next, codes, none, write_data(op % 8, r.value))
 }
 
 // NOT: every bit of Dn inverted.
 pub fn not(g: &[u32; 16], at: u32, sr: u16, op: u32) -> Change
     ensures { λ e. ⌜ e ≡ notOf (now (g .entry)) at sr op ⌝ }
 {
-    replaced(at, sr, op, 0xFFFF_FFFF - data(g, op))
+    replaced(at, sr, op, 0xFFFF_FFFF - data(g, op % 8))
 }
 
 // CLR: 0 to the operand's place.
@@ -224,9 +224,9 @@ pub fn mul_l(g: &[u32; 16], at: u32, sr: u16, mem: &[u8], op: u32) -> Change
 {
     match word_and_long(g, at, mem, op) {
         WordAndLong::Read(w, v, next, first) => {
-            let r = product(w, data(g, w / 0x1000), v);
+            let r = product(w, data(g, w / 0x1000 % 8), v);
             let codes = move_codes(Size::Long, r, sr);
-            done(next, codes, first, write_data(w / 0x1000, r))
+            done(next, codes, first, write_data(w / 0x1000 % 8, r))
         }
         WordAndLong::Fault(x) => refused(x),
     }
@@ -247,9 +247,9 @@ fn quotient_to(w: u32, q: Quotient) -> Write
     ensures { λ r. ⌜ r ≡ quotientTo w q ⌝ }
 {
     if w / 0x1000 % 8 == w % 8 {
-        write_data(w, q.quotient)
+        write_data(w % 8, q.quotient)
     } else {
-        write_data(w, q.remainder)
+        write_data(w % 8, q.remainder)
     }
 }
 
@@ -274,7 +274,7 @@ pub fn div_l(g: &[u32; 16], at: u32, sr: u16, mem: &[u8], op: u32) -> Change
             if v == 0 {
                 return enter_after(first, sr, 5, next);
             }
-            let q = divided(w, data(g, w / 0x1000), v);
+            let q = divided(w, data(g, w / 0x1000 % 8), v);
             quotient_done(next, sr, first, w, q)
         }
         WordAndLong::Fault(x) => refused(x),

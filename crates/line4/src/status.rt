@@ -92,7 +92,7 @@ pub fn move_to_usp(g: &[u32; 16], at: u32, sr: u16, op: u32) -> Change
     ensures { λ e. ⌜ e ≡ moveToUsp (now (g .entry)) at sr op ⌝ }
 {
     let next = plus(at, 2);
-    let a = address(g, op);
+    let a = address(g, op % 8);
     privileged(at, sr, acting(sr, next, no_write(), Action::SetOther(a)))
 }
 
@@ -103,7 +103,11 @@ pub fn move_from_usp(at: u32, sr: u16, other: u32, op: u32) -> Change
     let next = plus(at, 2);
     let codes = kept_codes(sr);
     let none = no_write();
-    privileged(at, sr, done(next, codes, none, write_address(op, other)))
+    privileged(
+        at,
+        sr,
+        done(next, codes, none, write_address(op % 8, other)),
+    )
 }
 
 // MOVE from SR to Dn, or vector 8 for a user.
@@ -114,8 +118,8 @@ pub fn move_from_sr(g: &[u32; 16], at: u32, sr: u16, op: u32) -> Change
         let next = plus(at, 2);
         let codes = kept_codes(sr);
         let none = no_write();
-        let low = merged(Size::Word, data(g, op), sr as u32);
-        privileged(at, sr, done(next, codes, none, write_data(op, low)))
+        let low = merged(Size::Word, data(g, op % 8), sr as u32);
+        privileged(at, sr, done(next, codes, none, write_data(op % 8, low)))
     } else {
         privileged(at, sr, illegal(at, sr))
     }
@@ -147,8 +151,8 @@ pub fn move_from_ccr(g: &[u32; 16], at: u32, sr: u16, op: u32) -> Change
     let next = plus(at, 2);
     let codes = kept_codes(sr);
     let none = no_write();
-    let low = merged(Size::Word, data(g, op), codes);
-    done(next, codes, none, write_data(op, low))
+    let low = merged(Size::Word, data(g, op % 8), codes);
+    done(next, codes, none, write_data(op % 8, low))
 }
 
 // MOVE to CCR.

@@ -7,6 +7,7 @@ use super::moves::move_to_emac;
 use super::moves::move_to_general;
 use super::moves::unassigned;
 use address::changes::acting;
+use address::changes::illegal;
 use emac::accumulators::acc_of;
 use emac::accumulators::read_ext;
 use emac::flags::fractional;
@@ -20,9 +21,10 @@ use word::registers::write_general;
 use word::word::plus;
 ghost use mathlib.Core.Path.{_≡_};
 ghost use Prim.Native.Nat.{_+_, _*_, _/_, _%_, _<_};
-ghost use Rattle.instructions.specs.LineA.{moveToGeneral, extPair, moveFromAcc, lineA as lineAOf};
+ghost use Rattle.instructions.specs.LineA.{moveToGeneral, moveFromAcc, lineA as lineAOf};
 ghost use Rattle.manual.specs.Memory.{mapped};
-ghost use Rattle.manual.specs.Emac.{emacOf, has, readExt};
+ghost use Rattle.manual.specs.Emac.{emacOf, fractional as fractionalOf, readExt};
+ghost use Rattle.manual.specs.Fields.{extField};
 
 // The unit of its parts. Few rows look at all of it, so that it is put together for them alone.
 fn unit(macsr: u32, mask: u32, acc: &[u64; 4]) -> Emac
@@ -43,7 +45,7 @@ fn move_from_acc(at: u32, sr: u16, e: Emac, op: u32) -> Change
     let k = mode_of(e.macsr);
     let v = mac_read(k, acc_of(e, i));
     let next = plus(at, 2);
-    let to = write_general(op, v);
+    let to = write_general(op % 16, v);
     if op / 64 % 2 == 1 {
         acting(sr, next, to, Action::ClearAcc(i))
     } else {
@@ -52,7 +54,7 @@ fn move_from_acc(at: u32, sr: u16, e: Emac, op: u32) -> Change
 }
 
 fn from_ext(at: u32, sr: u16, e: Emac, op: u32) -> Change
-    ensures { λ r. ⌜ r ≡ moveToGeneral at sr op (readExt (has (e .macsr) 5) e (extPair op)) ⌝ }
+    ensures { λ r. ⌜ r ≡ moveToGeneral at sr op (readExt (fractionalOf (e .macsr)) e (extField op)) ⌝ }
 {
     let fi = fractional(e.macsr);
     move_to_general(at, sr, op, read_ext(fi, e, op / 0x400 % 2 * 2))
@@ -85,6 +87,7 @@ pub fn instruction(
         rows::WRITE_ACC => move_to_emac(EmacPart::Acc, g, at, sr, mem, op),
         rows::MOV3Q => mov3q(g, at, sr, mem, op),
         rows::MAC => mac(g, at, sr, mask, mem, op),
-        _ => unassigned(g, at, sr, mem, op),
+        rows::LINEA => unassigned(g, at, sr, mem, op),
+        _ => illegal(at, sr),
     }
 }

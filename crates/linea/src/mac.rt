@@ -31,7 +31,7 @@ fn mac_registers(g: &[u32; 16], at: u32, sr: u16, op: u32, w: u32) -> Change
     let none = no_write();
     let i = op / 128 % 2 + w / 16 % 2 * 2;
     let x = general(g, op / 64 % 2 * 8 + op / 512 % 8);
-    let y = general(g, op);
+    let y = general(g, op % 16);
     acting(
         sr,
         next,
@@ -44,11 +44,8 @@ fn load_moves(op: u32, a: u32) -> Write
     ensures { λ r. ⌜ r ≡ loadMoves op a ⌝ }
 {
     match op / 8 % 8 {
-        0 => no_write(),
-        1 => no_write(),
-        2 => no_write(),
-        3 => write_address(op, plus(a, 4)),
-        4 => write_address(op, a),
+        3 => write_address(op % 8, plus(a, 4)),
+        4 => write_address(op % 8, a),
         _ => no_write(),
     }
 }
@@ -81,8 +78,8 @@ fn mac_load(
     let loaded = write_general(op / 64 % 2 * 8 + op / 512 % 8, v);
     let stepped = load_moves(op, a);
     let i = 1 - op / 128 % 2 + w / 16 % 2 * 2;
-    let x = general(g, w / 0x1000);
-    let y = general(g, w);
+    let x = general(g, w / 0x1000 % 16);
+    let y = general(g, w % 16);
     Change {
         pc: next,
         ccr: codes,
@@ -96,7 +93,7 @@ fn mac_with_load(g: &[u32; 16], at: u32, sr: u16, mask: u32, mem: &[u8], op: u32
     ensures { λ e. ⌜ e ≡ macWithLoad (now (g .entry)) at sr mask (mapped (now (mem .entry))) op w ⌝ }
 {
     let mode = op / 8 % 8;
-    let a = address(g, op);
+    let a = address(g, op % 8);
     if 5 < mode {
         return enter(sr, 10, at);
     }

@@ -40,7 +40,7 @@ pub(crate) fn move_to_general(at: u32, sr: u16, op: u32, v: u32) -> Change
     let next = plus(at, 2);
     let kept = kept_codes(sr);
     let none = no_write();
-    done(next, kept, none, write_general(op, v))
+    done(next, kept, none, write_general(op % 16, v))
 }
 
 pub(crate) fn move_acc_to_acc(at: u32, sr: u16, op: u32) -> Change

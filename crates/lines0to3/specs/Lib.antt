@@ -1,1 +1,2 @@
+pub mod MoveLaws
 pub mod MoveLines

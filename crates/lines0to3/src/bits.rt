@@ -6,7 +6,7 @@ ghost use Prim.Native.Nat.{_%_};
 ghost use Rattle.manual.specs.Bits.{changedBit};
 
 pub(crate) fn changed_bit(kind: u32, n: u32, v: u32) -> u32
-    ensures { λ r. ⌜ r ≡ changedBit kind (n % 32) v ⌝ }
+    ensures { λ r. ⌜ r ≡ changedBit (kind % 4) (n % 32) v ⌝ }
 {
     match kind % 4 {
         0 => v,

@@ -45,7 +45,7 @@ fn bitrev(g: &[u32; 16], at: u32, sr: u16, op: u32) -> Change
         next,
         codes,
         none,
-        write_data(op, reversed_bits(data(g, op))),
+        write_data(op % 8, reversed_bits(data(g, op % 8))),
     )
 }
 
@@ -59,18 +59,18 @@ fn byterev(g: &[u32; 16], at: u32, sr: u16, op: u32) -> Change
         next,
         codes,
         none,
-        write_data(op, reversed_bytes(data(g, op))),
+        write_data(op % 8, reversed_bytes(data(g, op % 8))),
     )
 }
 
 fn ff1(g: &[u32; 16], at: u32, sr: u16, op: u32) -> Change
     ensures { λ e. ⌜ e ≡ ff1Of (now (g .entry)) at sr op ⌝ }
 {
-    let v = data(g, op);
+    let v = data(g, op % 8);
     let next = plus(at, 2);
     let codes = move_codes(Size::Long, v, sr);
     let none = no_write();
-    done(next, codes, none, write_data(op, u32::leading_zeros(v)))
+    done(next, codes, none, write_data(op % 8, u32::leading_zeros(v)))
 }
 
 // ANDI, ORI and EORI.
@@ -82,11 +82,11 @@ pub fn logic_immediate(l: Logic, g: &[u32; 16], at: u32, sr: u16, mem: &[u8], op
         Got::Value(v) => v,
         Got::Fault(x) => return refused(x),
     };
-    let r = logic(l, data(g, op), v);
+    let r = logic(l, data(g, op % 8), v);
     let next = plus(pc, 4);
     let codes = move_codes(Size::Long, r, sr);
     let none = no_write();
-    done(next, codes, none, write_data(op, r))
+    done(next, codes, none, write_data(op % 8, r))
 }
 
 // ADDI and SUBI.
@@ -98,11 +98,11 @@ pub fn sum_immediate(add: bool, g: &[u32; 16], at: u32, mem: &[u8], op: u32) -> 
         Got::Value(v) => v,
         Got::Fault(x) => return refused(x),
     };
-    let r = sum_or_difference(add, Size::Long, v, data(g, op), false);
+    let r = sum_or_difference(add, Size::Long, v, data(g, op % 8), false);
     let next = plus(pc, 4);
     let codes = sum_codes(r);
     let none = no_write();
-    done(next, codes, none, write_data(op, r.value))
+    done(next, codes, none, write_data(op % 8, r.value))
 }
 
 fn cmpi(z: Size, g: &[u32; 16], at: u32, sr: u16, mem: &[u8], op: u32) -> Change
@@ -114,7 +114,7 @@ fn cmpi(z: Size, g: &[u32; 16], at: u32, sr: u16, mem: &[u8], op: u32) -> Change
         Got::Fault(x) => return refused(x),
     };
     let next = plus(pc, extension(Operand::Immediate, z));
-    let r = subtracted(z, v, data(g, op), false);
+    let r = subtracted(z, v, data(g, op % 8), false);
     let codes = compare_codes(sr, r);
     let none = no_write();
     done(next, codes, none, none)
@@ -124,11 +124,16 @@ fn cmpi(z: Size, g: &[u32; 16], at: u32, sr: u16, mem: &[u8], op: u32) -> Change
 pub fn bit_of_data(g: &[u32; 16], pc: u32, sr: u16, op: u32, n: u32) -> Change
     ensures { λ e. ⌜ e ≡ bitOfData (now (g .entry)) pc sr op n ⌝ }
 {
-    let v = data(g, op);
+    let v = data(g, op % 8);
     let was = bit_of(n, v);
     let codes = test_codes(sr, !was);
     let none = no_write();
-    done(pc, codes, none, write_data(op, changed_bit(op / 64, n, v)))
+    done(
+        pc,
+        codes,
+        none,
+        write_data(op % 8, changed_bit(op / 64, n, v)),
+    )
 }
 
 fn bit_of_byte(g: &[u32; 16], pc: u32, sr: u16, mem: &[u8], op: u32, n: u32) -> Change
@@ -163,7 +168,7 @@ fn bit_operation(g: &[u32; 16], pc: u32, sr: u16, mem: &[u8], op: u32, n: u32) -
 fn bit_by_register(g: &[u32; 16], at: u32, sr: u16, mem: &[u8], op: u32) -> Change
     ensures { λ e. ⌜ e ≡ bitByRegister (now (g .entry)) at sr (mapped (now (mem .entry))) op ⌝ }
 {
-    bit_operation(g, plus(at, 2), sr, mem, op, data(g, op / 512))
+    bit_operation(g, plus(at, 2), sr, mem, op, data(g, op / 512 % 8))
 }
 
 fn bit_by_immediate(g: &[u32; 16], at: u32, sr: u16, mem: &[u8], op: u32) -> Change
@@ -194,6 +199,7 @@ pub fn instruction(row: u8, g: &[u32; 16], at: u32, sr: u16, mem: &[u8], op: u32
         rows::CMPI_L => cmpi(Size::Long, g, at, sr, mem, op),
         rows::BITOP_IMM => bit_by_immediate(g, at, sr, mem, op),
         rows::BITOP_DN => bit_by_register(g, at, sr, mem, op),
+        rows::ILL_0 => illegal(at, sr),
         _ => illegal(at, sr),
     }
 }

@@ -1,5 +1,6 @@
 // Lines 1, 2 and 3: MOVE and MOVEA.
 use address::changes::done;
+use address::changes::illegal;
 use address::changes::put;
 use address::changes::refused;
 use address::operands::extension;
@@ -26,8 +27,9 @@ ghost use mathlib.Core.Path.{_≡_};
 ghost use Prim.Native.Nat.{_+_, _*_, _/_, _%_, _<_};
 ghost use Rattle.manual.specs.Memory.{mapped};
 ghost use Rattle.manual.specs.Registers.{written as writtenOf};
-ghost use Rattle.instructions.specs.Moves.{moveTo, move as moveOf, movea as moveaOf};
-ghost use Rattle.lines0to3.specs.MoveLines.{moveSize, moveaRow, moveLine};
+ghost use Rattle.instructions.specs.Moves.{move as moveOf, movea as moveaOf};
+ghost use Rattle.lines0to3.specs.MoveLaws.{moveTo};
+ghost use Rattle.lines0to3.specs.MoveLines.{moveSize, moveaRow, moveRow, moveLine};
 
 fn move_to(
     z: Size,
@@ -68,10 +70,16 @@ fn op_move(z: Size, g: &[u32; 16], at: u32, sr: u16, mem: &[u8], op: u32) -> Cha
     let next = from.next;
     let first = from.moved;
     let mode = op / 64 % 8;
+    // Dn is no other case, only sooner done.
     if mode == 0 {
-        let old = data(g, op / 512);
+        let old = data(g, op / 512 % 8);
         let codes = move_codes(z, v, sr);
-        done(next, codes, first, write_data(op / 512, merged(z, old, v)))
+        done(
+            next,
+            codes,
+            first,
+            write_data(op / 512 % 8, merged(z, old, v)),
+        )
     } else {
         let after = written(g, first);
         let target = operand(mode, op / 512 % 8);
@@ -91,7 +99,7 @@ fn movea(z: Size, g: &[u32; 16], at: u32, sr: u16, mem: &[u8], op: u32) -> Chang
     let next = from.next;
     let first = from.moved;
     let codes = kept_codes(sr);
-    let whole = write_address(op / 512, sign_extended(z, v));
+    let whole = write_address(op / 512 % 8, sign_extended(z, v));
     done(next, codes, first, whole)
 }
 
@@ -106,6 +114,7 @@ fn move_size(line: u8) -> Size
     }
 }
 
+// MOVEA's row of a line.
 fn movea_row(line: u8) -> u8
     ensures { λ r. ⌜ r ≡ moveaRow line ⌝ }
 {
@@ -113,6 +122,17 @@ fn movea_row(line: u8) -> u8
         1 => rows::MOVEA_B,
         2 => rows::MOVEA_L,
         _ => rows::MOVEA_W,
+    }
+}
+
+// MOVE's row of a line.
+fn move_row(line: u8) -> u8
+    ensures { λ r. ⌜ r ≡ moveRow line ⌝ }
+{
+    match line {
+        1 => rows::MOVE_B,
+        2 => rows::MOVE_L,
+        _ => rows::MOVE_W,
     }
 }
 
@@ -131,8 +151,10 @@ pub fn instruction(
 {
     let z = move_size(line);
     if row == movea_row(line) {
-        movea(z, g, at, sr, mem, op)
-    } else {
-        op_move(z, g, at, sr, mem, op)
+        return movea(z, g, at, sr, mem, op);
     }
+    if row == move_row(line) {
+        return op_move(z, g, at, sr, mem, op);
+    }
+    illegal(at, sr)
 }

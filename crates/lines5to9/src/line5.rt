@@ -20,7 +20,7 @@ use word::word::plus;
 use word::word::size_of;
 ghost use mathlib.Core.Path.{_≡_};
 ghost use Prim.Native.Nat.{_+_, _*_, _/_, _%_, _<_};
-ghost use Rattle.instructions.specs.Line5.{quickNumber, quickAdds, addqAddress, addqData, addq as addqOf, scc as sccOf, tpf as tpfOf, line5 as line5Of};
+ghost use Rattle.instructions.specs.Line5.{quickNumber, quickAdds, addqAddress, addq as addqOf, scc as sccOf, tpf as tpfOf, line5 as line5Of};
 ghost use Rattle.manual.specs.Memory.{mapped};
 ghost use Rattle.manual.specs.Differences.{anySize};
 
@@ -39,31 +39,16 @@ pub fn addq_address(g: &[u32; 16], at: u32, sr: u16, op: u32) -> Change
     let next = plus(at, 2);
     let codes = kept_codes(sr);
     let none = no_write();
-    let r = more_or_less(op / 256 % 2 == 0, address(g, op), quick_number(op));
-    done(next, codes, none, write_address(op, r))
+    let r = more_or_less(op / 256 % 2 == 0, address(g, op % 8), quick_number(op));
+    done(next, codes, none, write_address(op % 8, r))
 }
 
-fn addq_data(g: &[u32; 16], at: u32, op: u32) -> Change
-    ensures { λ e. ⌜ e ≡ addqData (now (g .entry)) at op ⌝ }
-{
-    let z = size_of(op / 64);
-    let old = data(g, op);
-    let r = sum_or_difference(op / 256 % 2 == 0, z, quick_number(op), old, false);
-    let next = plus(at, 2);
-    let codes = sum_codes(r);
-    let none = no_write();
-    done(next, codes, none, write_data(op, merged(z, old, r.value)))
-}
-
+// ADDQ and SUBQ to any other operand.
 fn addq(g: &[u32; 16], at: u32, mem: &[u8], op: u32) -> Change
     ensures { λ e. ⌜ e ≡ addqOf (now (g .entry)) at (mapped (now (mem .entry))) op ⌝ }
 {
-    if op / 8 % 8 == 0 {
-        addq_data(g, at, op)
-    } else {
-        let z = size_of(op / 64);
-        add_to_place(op / 256 % 2 == 0, z, g, at, mem, op, quick_number(op))
-    }
+    let z = size_of(op / 64);
+    add_to_place(op / 256 % 2 == 0, z, g, at, mem, op, quick_number(op))
 }
 
 // Scc: the low byte of Dn all ones where the condition holds, else 0.
@@ -73,20 +58,20 @@ pub fn scc(g: &[u32; 16], at: u32, sr: u16, op: u32) -> Change
     let next = plus(at, 2);
     let codes = kept_codes(sr);
     let none = no_write();
-    let old = data(g, op);
+    let old = data(g, op % 8);
     if condition(op / 256, sr) {
         done(
             next,
             codes,
             none,
-            write_data(op, merged(Size::Byte, old, 0xFF)),
+            write_data(op % 8, merged(Size::Byte, old, 0xFF)),
         )
     } else {
         done(
             next,
             codes,
             none,
-            write_data(op, merged(Size::Byte, old, 0)),
+            write_data(op % 8, merged(Size::Byte, old, 0)),
         )
     }
 }
@@ -111,6 +96,7 @@ pub fn instruction(row: u8, g: &[u32; 16], at: u32, sr: u16, mem: &[u8], op: u32
         rows::ADDQ_AN_L => addq_address(g, at, sr, op),
         rows::SCC => scc(g, at, sr, op),
         rows::ILL_50C0 => illegal(at, sr),
-        _ => addq(g, at, mem, op),
+        rows::ADDQ => addq(g, at, mem, op),
+        _ => illegal(at, sr),
     }
 }

@@ -1,4 +1,5 @@
 // Line 6: BRA, BSR and Bcc.
+use address::changes::illegal;
 use address::changes::jump;
 use address::changes::push;
 use address::changes::refused;
@@ -89,6 +90,7 @@ pub fn instruction(row: u8, g: &[u32; 16], at: u32, sr: u16, mem: &[u8], op: u32
     match row {
         rows::BRA => bra(at, sr, mem, op),
         rows::BSR => bsr(g, at, sr, mem, op),
-        _ => bcc(at, sr, mem, op),
+        rows::BCC => bcc(at, sr, mem, op),
+        _ => illegal(at, sr),
     }
 }

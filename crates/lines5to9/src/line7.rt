@@ -1,5 +1,6 @@
 // Line 7: MOVEQ, MVS and MVZ.
 use address::changes::done;
+use address::changes::illegal;
 use address::changes::refused;
 use address::operands::source;
 use manual::Change;
@@ -9,9 +10,9 @@ use manual::Size;
 use word::flags::move_codes;
 use word::registers::no_write;
 use word::registers::write_data;
+use word::word::byte_or_word;
 use word::word::plus;
 use word::word::sign_extended;
-use word::word::size_of;
 ghost use mathlib.Core.Path.{_≡_};
 ghost use Prim.Native.Nat.{_+_, _*_, _/_, _%_};
 ghost use Rattle.manual.specs.Memory.{mapped};
@@ -24,13 +25,13 @@ pub fn moveq(at: u32, sr: u16, op: u32) -> Change
     let v = sign_extended(Size::Byte, op);
     let next = plus(at, 2);
     let codes = move_codes(Size::Long, v, sr);
-    done(next, codes, no_write(), write_data(op / 512, v))
+    done(next, codes, no_write(), write_data(op / 512 % 8, v))
 }
 
 fn mvs(g: &[u32; 16], at: u32, sr: u16, mem: &[u8], op: u32) -> Change
     ensures { λ e. ⌜ e ≡ mvsOf (now (g .entry)) at sr (mapped (now (mem .entry))) op ⌝ }
 {
-    let z = size_of(op / 64 % 2);
+    let z = byte_or_word(op);
     let from = source(g, mem, plus(at, 2), op, z);
     let got = from.got;
     let v = match got {
@@ -41,13 +42,13 @@ fn mvs(g: &[u32; 16], at: u32, sr: u16, mem: &[u8], op: u32) -> Change
     let first = from.moved;
     let whole = sign_extended(z, v);
     let codes = move_codes(Size::Long, whole, sr);
-    done(next, codes, first, write_data(op / 512, whole))
+    done(next, codes, first, write_data(op / 512 % 8, whole))
 }
 
 fn mvz(g: &[u32; 16], at: u32, sr: u16, mem: &[u8], op: u32) -> Change
     ensures { λ e. ⌜ e ≡ mvzOf (now (g .entry)) at sr (mapped (now (mem .entry))) op ⌝ }
 {
-    let from = source(g, mem, plus(at, 2), op, size_of(op / 64 % 2));
+    let from = source(g, mem, plus(at, 2), op, byte_or_word(op));
     let got = from.got;
     let v = match got {
         Got::Value(v) => v,
@@ -56,7 +57,7 @@ fn mvz(g: &[u32; 16], at: u32, sr: u16, mem: &[u8], op: u32) -> Change
     let next = from.next;
     let first = from.moved;
     let codes = move_codes(Size::Long, v, sr);
-    done(next, codes, first, write_data(op / 512, v))
+    done(next, codes, first, write_data(op / 512 % 8, v))
 }
 
 // What a word of line 7 changes, taken for the instruction of a row.
@@ -66,6 +67,7 @@ pub fn instruction(row: u8, g: &[u32; 16], at: u32, sr: u16, mem: &[u8], op: u32
     match row {
         rows::MVS => mvs(g, at, sr, mem, op),
         rows::MVZ => mvz(g, at, sr, mem, op),
-        _ => moveq(at, sr, op),
+        rows::MOVEQ => moveq(at, sr, op),
+        _ => illegal(at, sr),
     }
 }

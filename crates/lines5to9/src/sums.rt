@@ -44,14 +44,14 @@ pub fn add_to_data(add: bool, g: &[u32; 16], at: u32, mem: &[u8], op: u32) -> Ch
     };
     let next = from.next;
     let first = from.moved;
-    let old = data(g, op / 512);
+    let old = data(g, op / 512 % 8);
     let r = sum_or_difference(add, z, v, old, false);
     let codes = sum_codes(r);
     done(
         next,
         codes,
         first,
-        write_data(op / 512, merged(z, old, r.value)),
+        write_data(op / 512 % 8, merged(z, old, r.value)),
     )
 }
 
@@ -82,7 +82,7 @@ pub fn add_to_place(
 pub fn add_to_memory(add: bool, g: &[u32; 16], at: u32, mem: &[u8], op: u32) -> Change
     ensures { λ e. ⌜ e ≡ addToMemory add (now (g .entry)) at (mapped (now (mem .entry))) op ⌝ }
 {
-    add_to_place(add, size_of(op / 64), g, at, mem, op, data(g, op / 512))
+    add_to_place(add, size_of(op / 64), g, at, mem, op, data(g, op / 512 % 8))
 }
 
 // A number added to a long, or taken from it, wrapped.
@@ -104,10 +104,10 @@ pub fn adda(add: bool, z: Size, g: &[u32; 16], at: u32, sr: u16, mem: &[u8], op:
     };
     let next = from.next;
     let first = from.moved;
-    let old = address_after(g, first, op / 512);
+    let old = address_after(g, first, op / 512 % 8);
     let r = more_or_less(add, old, sign_extended(z, v));
     let codes = kept_codes(sr);
-    done(next, codes, first, write_address(op / 512, r))
+    done(next, codes, first, write_address(op / 512 % 8, r))
 }
 
 // ADDX, or SUBX.
@@ -115,8 +115,8 @@ pub fn addx(add: bool, g: &[u32; 16], at: u32, sr: u16, op: u32) -> Change
     ensures { λ e. ⌜ e ≡ addxOf add (now (g .entry)) at sr op ⌝ }
 {
     let z = size_of(op / 64);
-    let old = data(g, op / 512);
-    let r = sum_or_difference(add, z, data(g, op), old, sr / 16 % 2 == 1);
+    let old = data(g, op / 512 % 8);
+    let r = sum_or_difference(add, z, data(g, op % 8), old, sr / 16 % 2 == 1);
     let next = plus(at, 2);
     let codes = extended_codes(sr, r);
     let none = no_write();
@@ -124,7 +124,7 @@ pub fn addx(add: bool, g: &[u32; 16], at: u32, sr: u16, op: u32) -> Change
         next,
         codes,
         none,
-        write_data(op / 512, merged(z, old, r.value)),
+        write_data(op / 512 % 8, merged(z, old, r.value)),
     )
 }
 
@@ -162,6 +162,7 @@ pub fn by_row(
         6 => adda(add, Size::Word, g, at, sr, mem, op),
         7 => adda(add, Size::Long, g, at, sr, mem, op),
         8 => add_to_data(add, g, at, mem, op),
-        _ => add_to_memory(add, g, at, mem, op),
+        9 => add_to_memory(add, g, at, mem, op),
+        _ => illegal(at, sr),
     }
 }

@@ -1,5 +1,6 @@
 // Line B: CMP, CMPA and EOR.
 use address::changes::done;
+use address::changes::illegal;
 use address::changes::put_to;
 use address::changes::refused;
 use address::operands::destination;
@@ -38,7 +39,7 @@ fn cmp(g: &[u32; 16], at: u32, sr: u16, mem: &[u8], op: u32) -> Change
     };
     let next = from.next;
     let first = from.moved;
-    let r = subtracted(z, v, data(g, op / 512), false);
+    let r = subtracted(z, v, data(g, op / 512 % 8), false);
     let codes = compare_codes(sr, r);
     done(next, codes, first, no_write())
 }
@@ -54,7 +55,7 @@ fn cmpa(z: Size, g: &[u32; 16], at: u32, sr: u16, mem: &[u8], op: u32) -> Change
     };
     let next = from.next;
     let first = from.moved;
-    let old = address_after(g, first, op / 512);
+    let old = address_after(g, first, op / 512 % 8);
     let r = subtracted(Size::Long, sign_extended(z, v), old, false);
     let codes = compare_codes(sr, r);
     done(next, codes, first, no_write())
@@ -77,7 +78,7 @@ pub(crate) fn logic_to_place(
         Got::Value(v) => v,
         Got::Fault(x) => return refused(x),
     };
-    let r = logic(l, v, data(g, op / 512));
+    let r = logic(l, v, data(g, op / 512 % 8));
     put_to(g, move_codes(z, r, sr), to, z, r)
 }
 
@@ -89,6 +90,7 @@ pub fn instruction(row: u8, g: &[u32; 16], at: u32, sr: u16, mem: &[u8], op: u32
         rows::CMPA_W => cmpa(Size::Word, g, at, sr, mem, op),
         rows::CMPA_L => cmpa(Size::Long, g, at, sr, mem, op),
         rows::CMP => cmp(g, at, sr, mem, op),
-        _ => logic_to_place(Logic::Eor, g, at, sr, mem, op),
+        rows::EOR => logic_to_place(Logic::Eor, g, at, sr, mem, op),
+        _ => illegal(at, sr),
     }
 }

@@ -1,6 +1,7 @@
 // Line C: AND, MULU.W and MULS.W.
 use super::lineb::logic_to_place;
 use address::changes::done;
+use address::changes::illegal;
 use address::changes::refused;
 use address::operands::source;
 use arith::multiply::signed_word_product;
@@ -35,10 +36,15 @@ fn logic_to_data(l: Logic, g: &[u32; 16], at: u32, sr: u16, mem: &[u8], op: u32)
     };
     let next = from.next;
     let first = from.moved;
-    let old = data(g, op / 512);
+    let old = data(g, op / 512 % 8);
     let r = logic(l, v, old);
     let codes = move_codes(z, r, sr);
-    done(next, codes, first, write_data(op / 512, merged(z, old, r)))
+    done(
+        next,
+        codes,
+        first,
+        write_data(op / 512 % 8, merged(z, old, r)),
+    )
 }
 
 // The product of MULS.W where `signs`, else of MULU.W.
@@ -63,9 +69,9 @@ fn mul_w(signs: bool, g: &[u32; 16], at: u32, sr: u16, mem: &[u8], op: u32) -> C
     };
     let next = from.next;
     let first = from.moved;
-    let r = product(signs, data(g, op / 512), v);
+    let r = product(signs, data(g, op / 512 % 8), v);
     let codes = move_codes(Size::Long, r, sr);
-    done(next, codes, first, write_data(op / 512, r))
+    done(next, codes, first, write_data(op / 512 % 8, r))
 }
 
 // What a word of line C changes, taken for the instruction of a row.
@@ -76,6 +82,7 @@ pub fn instruction(row: u8, g: &[u32; 16], at: u32, sr: u16, mem: &[u8], op: u32
         rows::MULU_W => mul_w(false, g, at, sr, mem, op),
         rows::MULS_W => mul_w(true, g, at, sr, mem, op),
         rows::AND_DN => logic_to_data(Logic::And, g, at, sr, mem, op),
-        _ => logic_to_place(Logic::And, g, at, sr, mem, op),
+        rows::AND_MEM => logic_to_place(Logic::And, g, at, sr, mem, op),
+        _ => illegal(at, sr),
     }
 }

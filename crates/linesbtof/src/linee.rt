@@ -20,7 +20,7 @@ fn shift_count(g: &[u32; 16], op: u32) -> u32
     ensures { λ r. ⌜ (r ≡ shiftCount (now (g .entry)) op) × (r < 64) ⌝ }
 {
     if op / 32 % 2 == 1 {
-        data(g, op / 512) % 64
+        data(g, op / 512 % 8) % 64
     } else {
         quick_number(op)
     }
@@ -44,10 +44,10 @@ pub fn shift(signs: bool, g: &[u32; 16], at: u32, sr: u16, op: u32) -> Change
     ensures { λ e. ⌜ e ≡ shiftOf signs (now (g .entry)) at sr op ⌝ }
 {
     let n = shift_count(g, op);
-    let s = shifted(signs, op, data(g, op), n);
+    let s = shifted(signs, op, data(g, op % 8), n);
     let next = plus(at, 2);
     let codes = shift_codes(sr, n, s);
-    done(next, codes, no_write(), write_data(op, s.value))
+    done(next, codes, no_write(), write_data(op % 8, s.value))
 }
 
 // What a word of line E changes, taken for the instruction of a row.
@@ -57,6 +57,7 @@ pub fn instruction(row: u8, g: &[u32; 16], at: u32, sr: u16, op: u32) -> Change
     match row {
         rows::ASX => shift(true, g, at, sr, op),
         rows::LSX => shift(false, g, at, sr, op),
+        rows::ILL_E => illegal(at, sr),
         _ => illegal(at, sr),
     }
 }

@@ -1,6 +1,7 @@
 // Line F: cache and debug instructions, and the words of the missing floating-point unit.
 use address::changes::done;
 use address::changes::enter;
+use address::changes::illegal;
 use address::changes::jump;
 use address::changes::privilege;
 use address::changes::refused;
@@ -73,6 +74,7 @@ pub fn instruction(row: u8, g: &[u32; 16], at: u32, sr: u16, mem: &[u8], op: u32
         rows::WDEBUG => wdebug(g, at, sr, mem, op),
         rows::CACHE => cache_line(at, sr),
         rows::WDDATA => wddata(g, at, sr, mem, op),
-        _ => enter(sr, 11, at),
+        rows::LINEF => enter(sr, 11, at),
+        _ => illegal(at, sr),
     }
 }

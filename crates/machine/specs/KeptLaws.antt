@@ -15,11 +15,11 @@ use Rattle.manual.specs.Registers.{addressOf, withAddress, withRegisters, withE
 use Rattle.manual.specs.Memory.{Memory, storing, accessMany, loadedMany}
 use Rattle.manual.specs.Admitted.{admitted, emacAdmitted}
 use Rattle.manual.specs.Exceptions.{setSr}
-use Rattle.manual.specs.Emac.{accumulate, moveTo, setExt, setMacsr, setMask, copyAcc, clearAcc}
+use Rattle.manual.specs.Emac.{accumulate, setAcc, setExt, setMacsr, setMask, copyAcc, clearAcc}
 use Rattle.instructions.specs.Perform.{statusPushed, act, perform}
 use Rattle.state.specs.AdmittedLaws.{admitted-emac, registers-admitted, address-admitted, other-admitted, stopped-admitted, emac-admitted, applied-admitted, set-sr-admitted}
 use Rattle.exceptions.specs.EntryAdmitted.{refusal-admitted, taking-admitted, entered-admitted, returned-admitted}
-use Rattle.emac.specs.EmacKept.{accumulate-kept, set-macsr-kept, move-to-kept, copy-acc-kept, clear-acc-kept, set-ext-kept, set-mask-kept}
+use Rattle.emac.specs.EmacKept.{accumulate-kept, set-macsr-kept, set-acc-kept, copy-acc-kept, clear-acc-kept, set-ext-kept, set-mask-kept}
 
 module _ (given s : Cpu) (m : Memory) (k : admitted given ≡ true) (h : admitted s ≡ true) where
   pushed-admitted : (v : ℕ) → admitted (statusPushed given s v m .stepped .cpu) ≡ true
@@ -48,7 +48,7 @@ module _ (given s : Cpu) (m : Memory) (k : admitted given ≡ true) (h : admitte
   act-admitted Halt = stopped-admitted true s h
   act-admitted (SetOther v) = other-admitted v s h
   act-admitted (Accumulate i scale sub x y) = unit-admitted (accumulate (s .emac) i scale sub x y) (accumulate-kept (s .emac) unit i scale sub x y)
-  act-admitted (SetAcc i v) = unit-admitted (moveTo (s .emac) i v) (move-to-kept (s .emac) unit i v)
+  act-admitted (SetAcc i v) = unit-admitted (setAcc (s .emac) i v) (set-acc-kept (s .emac) unit i v)
   act-admitted (SetExt i v) = unit-admitted (setExt (s .emac) i v) (set-ext-kept (s .emac) unit i v)
   act-admitted (SetMacsr v) = unit-admitted (setMacsr (s .emac) v) (set-macsr-kept (s .emac) unit v)
   act-admitted (SetMask v) = unit-admitted (setMask (s .emac) v) (set-mask-kept (s .emac) unit v)

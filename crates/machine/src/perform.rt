@@ -1,7 +1,7 @@
 // What an instruction leaves is done, once all of it has been tested.
 use emac::accumulators::clear_acc;
 use emac::accumulators::copy_acc;
-use emac::accumulators::move_to;
+use emac::accumulators::set_acc;
 use emac::accumulators::set_ext;
 use emac::accumulators::set_macsr;
 use emac::accumulators::set_mask;
@@ -101,7 +101,7 @@ pub fn perform(given: Cpu, change: Change, mem: &mut [u8]) -> Stepped
         Action::Accumulate(i, scale, sub, x, y) => {
             completed(with_emac(cpu, accumulate(e, i, scale, sub, x, y)))
         }
-        Action::SetAcc(i, v) => completed(with_emac(cpu, move_to(e, i, v))),
+        Action::SetAcc(i, v) => completed(with_emac(cpu, set_acc(e, i, v))),
         Action::SetExt(i, v) => completed(with_emac(cpu, set_ext(e, i, v))),
         Action::SetMacsr(v) => completed(with_emac(cpu, set_macsr(e, v))),
         Action::SetMask(v) => completed(with_emac(cpu, set_mask(e, v))),

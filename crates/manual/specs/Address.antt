@@ -1,38 +1,43 @@
 -- Effective addresses. The manual: "Effective Addressing Modes" and "Effective Addressing Mode Summary".
-use Prim.Native.Nat.{ℕ, _+_, _-_, _*_, _/_, _%_, _^_}
-use mathlib.Core.Bool.{Bool, true, false, cond}
-use mathlib.Core.List.{List, [], _∷_}
-use lib.ListN.{getD}
-use lib.Dec.{eqb}
-use Rattle.manual.specs.declared.Source.{Source}
-use Rattle.manual.specs.declared.Destination.{Destination}
-use Rattle.manual.specs.declared.Size.{Size}
-use Rattle.manual.specs.declared.Size.the-variants.{Byte, Word, Long}
-use Rattle.manual.specs.declared.Got.{Got}
-use Rattle.manual.specs.declared.Got.the-variants.{Value, Fault as NoValue}
-use Rattle.manual.specs.declared.Operand.{Operand}
-use Rattle.manual.specs.declared.Operand.the-variants.{Data, Address, Indirect, PostIncrement, PreDecrement, Displaced, Indexed, AbsoluteWord, AbsoluteLong, PcDisplaced, PcIndexed, Immediate, Zero}
-use Rattle.manual.specs.declared.Place.{Place}
-use Rattle.manual.specs.declared.Write.{Write}
-use Rattle.manual.specs.declared.Place.the-variants.{D, A, M, I, Fault}
-use Rattle.manual.specs.Word.{plus, minus, signExtended, bytes, cut}
-use Rattle.manual.specs.Registers.{dataOf, addressOf, general, noWrite, writeAddress}
-use Rattle.manual.specs.Memory.{Memory, load}
-use Rattle.manual.specs.Differences.{wordIndex, indexScale, reservedOperand, partOfAddress}
-use Rattle.manual.specs.declared.Reached.{Reached}
-use Rattle.manual.specs.declared.Reached.the-variants.{At, NoAddress}
+use Prim.Native.Nat.{ℕ, _*_, _%_, _^_}
+use mathlib.Core.{Bool.cond, List.List, List.[], List._∷_}
+use lib.{ListN.getD}
+use Rattle.manual.specs.declared.{Source.Source, Destination.Destination, Size.Size, Size.the-variants.Byte, Size.the-variants.Word, Size.the-variants.Long, Got.Got, Got.the-variants.Value, Got.the-variants.Fault as NoValue}
+use Rattle.manual.specs.declared.{Operand.Operand, Operand.the-variants.Data, Operand.the-variants.Address, Operand.the-variants.Indirect, Operand.the-variants.PostIncrement, Operand.the-variants.PreDecrement}
+use Rattle.manual.specs.declared.{Operand.the-variants.Displaced, Operand.the-variants.Indexed, Operand.the-variants.AbsoluteWord, Operand.the-variants.AbsoluteLong, Operand.the-variants.PcDisplaced, Operand.the-variants.PcIndexed}
+use Rattle.manual.specs.declared.{Operand.the-variants.Immediate, Operand.the-variants.Zero, Place.Place, Write.Write, Place.the-variants.D, Place.the-variants.A, Place.the-variants.M, Place.the-variants.I, Place.the-variants.Fault}
+use Rattle.manual.specs.declared.{Reached.Reached, Reached.the-variants.At, Reached.the-variants.NoAddress}
+use Rattle.manual.specs.{Word.plus, Word.minus, Word.signExtended, Word.bytes, Word.cut, Registers.dataOf, Registers.addressOf, Registers.general, Registers.noWrite, Registers.writeAddress, Memory.Memory, Memory.load, Bits.bitOf}
+use Rattle.manual.specs.{Fields.mode, Fields.register, Fields.highFour, Differences.wordIndex, Differences.indexScale, Differences.reservedOperand, Differences.byteOfAddress}
 
 -- the operands of mode 7, by register
 abbrev pub modeSeven : List Operand
-modeSeven = AbsoluteWord ∷ AbsoluteLong ∷ PcDisplaced ∷ PcIndexed ∷ Immediate ∷ []
+modeSeven =
+    (AbsoluteWord ∷  -- 0 (xxx).W
+    AbsoluteLong ∷  -- 1 (xxx).L
+    PcDisplaced ∷  -- 2 (d16,PC)
+    PcIndexed ∷  -- 3 (d8,PC,Xi)
+    Immediate ∷  -- 4 #<data>
+    [])
 
 -- the operand that a mode and a register name
 unfoldable pub operand : ℕ → ℕ → Operand
 operand mode r =
     getD
-    (Data r ∷ Address r ∷ Indirect r ∷ PostIncrement r ∷ PreDecrement r ∷ Displaced r ∷ Indexed r ∷ [])
-    (mode % 8)
-    (getD modeSeven (r % 8) reservedOperand)
+    (Data r ∷  -- 0 Dn
+    Address r ∷  -- 1 An
+    Indirect r ∷  -- 2 (An)
+    PostIncrement r ∷  -- 3 (An)+
+    PreDecrement r ∷  -- 4 -(An)
+    Displaced r ∷  -- 5 (d16,An)
+    Indexed r ∷  -- 6 (d8,An,Xi)
+    getD modeSeven (r % 8) reservedOperand ∷  -- 7
+    [])
+    (mode % 8) reservedOperand
+
+-- the operand that bits 5 to 0 of a word name
+abbrev pub operandOf : ℕ → Operand
+operandOf op = operand (mode op) (register op)
 
 -- how many bytes of the instruction an operand takes after the opcode word
 unfoldable pub extension : Operand → Size → ℕ
@@ -61,8 +66,8 @@ NoValue x then f = Fault x
 -- the index register of a brief extension word, scaled
 unfoldable pub index : List ℕ → ℕ → ℕ
 index g w =
-    let r : ℕ = general g (w / 0x1000) in
-    let x : ℕ = cond (eqb (w / 0x800 % 2) 1) r (wordIndex r) in
+    let r : ℕ = general g (highFour w) in
+    let x : ℕ = cond (bitOf 11 w) r (wordIndex r) in
     x * indexScale w % 2 ^ 32
 
 -- the brief extension word: a base, a byte's displacement and the index
@@ -107,10 +112,16 @@ moved g PcIndexed z = noWrite
 moved g Immediate z = noWrite
 moved g Zero z = noWrite
 
+-- an address register as a long or a word, or what is read of it as a byte
+abbrev pub partOfAddress : Size → ℕ → ℕ
+partOfAddress Byte a = byteOfAddress a
+partOfAddress Word a = cut Word a
+partOfAddress Long a = cut Long a
+
 -- what stands at a place
 unfoldable pub fetch : List ℕ → Memory → Place → Size → Got
 fetch g m (D r) z = Value (cut z (dataOf g r))
-fetch g m (A r) z = Value (partOfAddress z g r)
+fetch g m (A r) z = Value (partOfAddress z (addressOf g r))
 fetch g m (M a) z = load m a z
 fetch g m (I v) z = Value (cut z v)
 fetch g m (Fault x) z = NoValue x
@@ -143,14 +154,18 @@ control g m pc PcIndexed = reached (locate g m pc PcIndexed Long)
 control g m pc Immediate = NoAddress
 control g m pc Zero = NoAddress
 
--- all that is read of the operand that a word's bits 5 to 0 name, its extension words being at pc
+-- all that is read of the operand that bits 5 to 0 of a word name, its extension words being at pc
+-- 27. Every instruction takes every mode. The manual: each has a list of its own, shorter for MUL.L, DIV.L and bit operations
 unfoldable pub source : List ℕ → Memory → ℕ → ℕ → Size → Source
 source g m pc op z =
-    let o : Operand = operand (op / 8 % 8) (op % 8) in
+    let o : Operand = operandOf op in
     record { got = value g m pc o z; next = plus pc (extension o z); moved = moved g o z }
 
--- where the operand that a word's bits 5 to 0 name is written
-unfoldable pub destination : List ℕ → Memory → ℕ → ℕ → Size → Destination
-destination g m pc op z =
-    let o : Operand = operand (op / 8 % 8) (op % 8) in
-    record { place = locate g m pc o z; next = plus pc (extension o z); moved = moved g o z }
+-- where an operand is written
+-- 20. Modes relative to the program counter are written too. The manual: they are not alterable, so illegal
+unfoldable pub destinationOf : List ℕ → Memory → ℕ → Operand → Size → Destination
+destinationOf g m pc o z = record { place = locate g m pc o z; next = plus pc (extension o z); moved = moved g o z }
+
+-- the operand that bits 5 to 0 of a word name
+abbrev pub destination : List ℕ → Memory → ℕ → ℕ → Size → Destination
+destination g m pc op z = destinationOf g m pc (operandOf op) z

@@ -1,13 +1,9 @@
--- Single bits and their order. The manual: BTST, BCHG, BCLR, BSET, BITREV, BYTEREV; AND, OR, EOR.
+-- Single bits and their order: the one test of a bit and the one setter. The manual: BTST, BCHG, BCLR, BSET, BITREV, BYTEREV; AND, OR, EOR.
 use Prim.Native.Nat.{ℕ, zero, suc, _+_, _-_, _*_, _/_, _%_, _^_}
-use mathlib.Core.Bool.{Bool, true, false, not}
-use mathlib.Core.List.{List, [], _∷_}
-use lib.Dec.{eqb}
-use lib.ListN.{getD}
-use lib.Bits.{bitAnd, bitOr, bitXor}
-use Rattle.manual.specs.declared.Logic.{Logic}
-use Rattle.manual.specs.declared.Logic.the-variants.{And, Or, Eor}
-use Rattle.manual.specs.Word.{bit}
+use mathlib.Core.{Bool.Bool, Bool.true, Bool.false, Bool.not, List.[], List._∷_}
+use lib.{Dec.eqb, ListN.getD, Bits.bitAnd, Bits.bitOr, Bits.bitXor}
+use Rattle.manual.specs.declared.{Logic.Logic, Logic.the-variants.And, Logic.the-variants.Or, Logic.the-variants.Eor}
+use Rattle.manual.specs.{Word.bit}
 
 unfoldable pub logic : Logic → ℕ → ℕ → ℕ
 logic And a b = bitAnd a b
@@ -22,9 +18,18 @@ bitOf n v = eqb (v / 2 ^ n % 2) 1
 unfoldable pub withBit : ℕ → Bool → ℕ → ℕ
 withBit n b v = v - bit (bitOf n v) * 2 ^ n + bit b * 2 ^ n
 
--- what becomes of bit n: 0 leaves it, 1 turns it over, 2 clears it and 3 sets it
+-- what an operation, by number, makes of bit n
 unfoldable pub changedBit : ℕ → ℕ → ℕ → ℕ
-changedBit kind n v = withBit n (getD (bitOf n v ∷ not (bitOf n v) ∷ false ∷ []) (kind % 4) true) v
+changedBit operator n v =
+    withBit n
+    (getD
+    (bitOf n v ∷  -- 0 BTST
+    not (bitOf n v) ∷  -- 1 BCHG
+    false ∷  -- 2 BCLR
+    true ∷  -- 3 BSET
+    [])
+    operator false)
+    v
 
 -- the n low bits in reverse order: the lowest becomes the highest
 unfoldable pub reversedBits : ℕ → ℕ → ℕ

@@ -1,20 +1,10 @@
 -- The state block: 128 bytes that hold a state, big-endian. Its first byte is the version, 1, and the next four say how many
 -- bytes follow them, 123.
 use Prim.Native.Nat.{ℕ, zero, suc, _+_, _*_, _%_, _^_}
-use mathlib.Core.Bool.{Bool, true, false, cond, _&&_}
-use mathlib.Core.List.{List, [], _∷_}
-use lib.Dec.{eqb, ltb, leb}
-use lib.ListN.{length, getD, replicate}
-use Rattle.manual.specs.declared.Cpu.{Cpu}
-use Rattle.manual.specs.declared.Emac.{Emac}
-use Rattle.manual.specs.declared.Mode.{Mode}
-use Rattle.manual.specs.declared.Reply.{Reply}
-use Rattle.manual.specs.declared.Reply.the-variants.{Done, NotAdmitted, WrongVersion, WrongLength}
-use Rattle.manual.specs.declared.Answer.{Answer}
-use Rattle.manual.specs.Word.{bit}
-use Rattle.manual.specs.Memory.{valueAt, storeAt}
-use Rattle.manual.specs.Emac.{modeOf, accOf, blockNumber, blockInRange}
-use Rattle.manual.specs.Admitted.{status, admitted}
+use mathlib.Core.{Bool.Bool, Bool.false, Bool.cond, Bool._&&_, List.List, List.[], List._∷_}
+use lib.{Dec.eqb, Dec.ltb, ListN.length, ListN.getD, ListN.replicate}
+use Rattle.manual.specs.declared.{Cpu.Cpu, Emac.Emac, Mode.Mode, Reply.Reply, Reply.the-variants.Done, Reply.the-variants.NotAdmitted, Reply.the-variants.WrongVersion, Reply.the-variants.WrongLength, Answer.Answer}
+use Rattle.manual.specs.{Word.bit, Memory.valueAt, Memory.storeAt, Emac.modeOf, Emac.accOf, Emac.blockNumber, Emac.blockInRange, Admitted.admitted}
 
 -- the fresh state: all 0, but MASK all ones
 unfoldable pub fresh : Cpu

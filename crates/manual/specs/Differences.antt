@@ -1,24 +1,16 @@
--- Where the original interpreter, and so this core, parts from the manual: each place a definition of its own, which the rest
--- uses. docs/DIFFERENCES.md has them all, each with what the manual says and a witness; the numbers are those of its rows.
-use Prim.Native.Nat.{ℕ, _+_, _*_, _/_, _%_, _^_}
-use mathlib.Core.Bool.{Bool, true, false, cond, _&&_}
-use mathlib.Core.List.{List}
-use lib.Dec.{eqb, leb, ltb}
-use Rattle.manual.specs.declared.Size.{Size}
-use Rattle.manual.specs.declared.Size.the-variants.{Byte, Word, Long}
-use Rattle.manual.specs.declared.Operand.{Operand}
-use Rattle.manual.specs.declared.Operand.the-variants.{Zero}
-use Rattle.manual.specs.declared.Write.{Write}
-use Rattle.manual.specs.declared.Action.the-variants.{Nothing}
-use Rattle.manual.specs.declared.Change.{Change}
-use Rattle.manual.specs.Word.{plus, cut, signExtended, sizeOf}
-use Rattle.manual.specs.Registers.{addressOf, writeAddress}
+-- Where the original interpreter, and so this core, parts from the manual in what several instructions share. What one instruction does
+-- otherwise stands with it, and the EMAC's with the EMAC. docs/DIFFERENCES.md has them all by their numbers, each with a witness.
+use Prim.Native.Nat.{ℕ, _+_, _*_, _%_, _^_}
+use mathlib.Core.{Bool.cond}
+use lib.{Dec.ltb}
+use Rattle.manual.specs.declared.{Size.Size, Size.the-variants.Byte, Size.the-variants.Word, Operand.Operand, Operand.the-variants.Zero, Action.the-variants.Nothing, Change.Change}
+use Rattle.manual.specs.{Word.plus, Word.cut, Word.signExtended, Fields.bits, Fields.sizeField, Registers.writeAddress}
 
 -- ---- Exceptions
 
 -- 2. An interrupt leaves M, bit 12 of the status register. The manual: it clears it.
 abbrev pub keptM : ℕ → ℕ
-keptM sr = sr / 0x1000 % 2 * 0x1000
+keptM sr = sr
 
 -- 3. RTE takes every frame format: 4 to 7 say by how much A7 was off a multiple of 4, and any other is taken as 4.
 -- The manual: any other is a format error, vector 14. This is how far A7 goes up.
@@ -41,25 +33,24 @@ wordIndex r = signExtended Word r
 
 -- 18. A scale of 8 is taken, and bit 8 of the extension word is not looked at. The manual: both are address errors.
 abbrev pub indexScale : ℕ → ℕ
-indexScale w = 2 ^ (w / 0x200 % 4)
+indexScale w = 2 ^ bits 10 9 w
 
 -- 19. Registers 5 to 7 of mode 7 are an immediate 0 that takes no extension word. The manual: illegal.
 abbrev pub reservedOperand : Operand
 reservedOperand = Zero
 
--- 20. A store to an immediate is dropped, its words having been fetched. The manual: not alterable, so illegal.
--- (A store through a mode relative to the program counter goes to memory.)
-abbrev pub storeToImmediate : ℕ → ℕ → Write → Write → Change
-storeToImmediate next codes one two = record { pc = next; ccr = codes; first = one; second = two; action = Nothing }
+-- 20. A store to an immediate is dropped, its words having been fetched: c is left. The manual: not alterable, so illegal.
+abbrev pub storeToImmediate : Change → Change
+storeToImmediate c = c
 
--- 22, 27. A byte or a word of An is its low part. The manual: no byte access to An.
-abbrev pub partOfAddress : Size → List ℕ → ℕ → ℕ
-partOfAddress z g r = cut z (addressOf g r)
+-- 22. A byte of An is its low byte. The manual: there is no byte access to An.
+abbrev pub byteOfAddress : ℕ → ℕ
+byteOfAddress a = cut Byte a
 
--- 22, 24, 25. A store to An by an instruction that the manual gives no such form replaces all 32 bits.
-abbrev pub storeToAddress : ℕ → ℕ → Write → ℕ → ℕ → Change
-storeToAddress next codes one r v = record { pc = next; ccr = codes; first = one; second = writeAddress r v; action = Nothing }
+-- 25. A store to An by an instruction that has no such form in the manual (CLR, TAS, a bit operation, ..) replaces all 32 bits.
+abbrev pub storeToAddress : ℕ → ℕ → Change → Change
+storeToAddress r v c = record { pc = c .pc; ccr = c .ccr; first = c .first; second = writeAddress r v; action = Nothing }
 
 -- 23. Bits 7 and 6 name the size of ADD, SUB, AND, EOR, ADDQ, SUBQ, ADDX and SUBX. The manual: long only.
 abbrev pub anySize : ℕ → Size
-anySize op = sizeOf (op / 64)
+anySize op = sizeField op

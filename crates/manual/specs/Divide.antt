@@ -1,14 +1,10 @@
 -- Quotients and remainders of longs, rounded toward zero; the remainder has the dividend's sign.
 -- The manual: DIVS.L, DIVU.L, REMS.L, REMU.L. By 0 there is none.
-use mathlib.Core.Bool.{Bool, true, false, cond}
-use Prim.Native.Nat.{ℕ, _+_, _*_, _/_, _%_, _^_}
-use lib.Dec.{eqb}
-use lib.IntN.{ℤ}
-use lib.Signed.{quotZ, remZ}
-use Rattle.manual.specs.declared.Size.the-variants.{Long}
-use Rattle.manual.specs.declared.Quotient.{Quotient}
-use Rattle.manual.specs.Word.{signed, fits, modZ}
-use Rattle.manual.specs.Flags.{codes, flagX, flagN}
+use Prim.Native.Nat.{ℕ, _/_, _%_, _^_}
+use mathlib.Core.{Bool.true, Bool.false, Bool.cond}
+use lib.{Dec.eqb, IntN.ℤ, Signed.quotZ, Signed.remZ}
+use Rattle.manual.specs.declared.{Size.the-variants.Long, Quotient.Quotient}
+use Rattle.manual.specs.{Word.signed, Word.fits, Word.modZ, Flags.codes, Flags.flagX, Flags.flagN}
 
 abbrev pub noQuotient : Quotient
 noQuotient = record { fits = false; quotient = 0; remainder = 0 }
@@ -26,6 +22,6 @@ signedQuotient a b =
     (record { fits = true; quotient = modZ q (2 ^ 32); remainder = modZ (remZ (signed Long a) (signed Long b)) (2 ^ 32) })
     noQuotient)
 
--- ---- 33. An overflow sets V, clears Z and C, and keeps N. The manual: N is cleared
+-- 33. An overflow sets V, clears Z and C, and keeps N. The manual: N is cleared
 unfoldable pub overflowCodes : ℕ → ℕ
 overflowCodes sr = codes (flagX sr) (flagN sr) false true false

@@ -1,16 +1,10 @@
 -- The calls on the accumulators and MACSR. A state that is not admitted is refused, and then a number that is no accumulator's.
 -- Document: "Numbered replies".
 use Prim.Native.Nat.{ℕ, _+_, _*_, _%_, _^_}
-use mathlib.Core.Bool.{Bool, cond}
-use lib.Dec.{ltb}
-use Rattle.manual.specs.declared.Cpu.{Cpu}
-use Rattle.manual.specs.declared.Emac.{Emac}
-use Rattle.manual.specs.declared.Reply.the-variants.{Done, NotAdmitted, OutOfRange}
-use Rattle.manual.specs.declared.Answer.{Answer}
-use Rattle.manual.specs.declared.Told.{Told}
-use Rattle.manual.specs.Registers.{withEmac}
-use Rattle.manual.specs.Emac.{has, modeOf, accOf, withAcc, accPart, extPart, patternOf, blockNumber, setMacsr}
-use Rattle.manual.specs.Admitted.{admitted}
+use mathlib.Core.{Bool.Bool, Bool.cond}
+use lib.{Dec.ltb}
+use Rattle.manual.specs.declared.{Cpu.Cpu, Emac.Emac, Reply.the-variants.Done, Reply.the-variants.NotAdmitted, Reply.the-variants.OutOfRange, Answer.Answer, Told.Told}
+use Rattle.manual.specs.{Registers.withEmac, Emac.fractional, Emac.modeOf, Emac.accOf, Emac.withAcc, Emac.accPart, Emac.extPart, Emac.patternOf, Emac.blockNumber, Emac.setMacsr, Admitted.admitted}
 
 -- a number of accumulator i
 abbrev pub accTold : Cpu → ℕ → ℕ → Told
@@ -41,14 +35,14 @@ accSetCall s i v = accChanged s i (withAcc i (s .emac .macsr) (v % 2 ^ 48) (s .e
 -- the physical registers: ACCn in the 32 low bits, and ACCextn above
 unfoldable pub accPhysCall : Cpu → ℕ → Told
 accPhysCall s i =
-    let fi : Bool = has (s .emac .macsr) 5 in
+    let fi : Bool = fractional (s .emac .macsr) in
     let a : ℕ = accOf (s .emac) i in
     accTold s i (accPart fi a + 2 ^ 32 * extPart fi a)
 
 -- both physical registers. No flag changes
 unfoldable pub setAccPhysCall : Cpu → ℕ → ℕ → ℕ → Answer
 setAccPhysCall s i acc ext =
-    accChanged s i (withAcc i (s .emac .macsr) (patternOf (has (s .emac .macsr) 5) acc ext) (s .emac))
+    accChanged s i (withAcc i (s .emac .macsr) (patternOf (fractional (s .emac .macsr)) acc ext) (s .emac))
 
 unfoldable pub setMacsrCall : Cpu → ℕ → Answer
 setMacsrCall s v =

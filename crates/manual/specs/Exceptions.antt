@@ -1,40 +1,28 @@
 -- Exceptions: entry, return, interrupts, and the calls on the stack and the status register.
 -- The manual: "Exception Processing Overview", "Exception Stack Frame Definition" and RTE.
-use Prim.Native.Nat.{ℕ, _+_, _-_, _*_, _/_, _%_}
-use mathlib.Core.Bool.{Bool, true, false, cond, not, _&&_, Bool·beq}
-use lib.Dec.{eqb, ltb, leb}
-use Rattle.manual.specs.declared.Cpu.{Cpu}
-use Rattle.manual.specs.declared.Size.the-variants.{Long}
-use Rattle.manual.specs.declared.Got.{Got}
-use Rattle.manual.specs.declared.Got.the-variants.{Value, Fault as NoValue}
-use Rattle.manual.specs.declared.Level.{Level}
-use Rattle.manual.specs.declared.Level.the-variants.{Kept, To}
-use Rattle.manual.specs.declared.Reply.{Reply}
-use Rattle.manual.specs.declared.Reply.the-variants.{Done, NotAdmitted, OutOfRange, Masked}
-use Rattle.manual.specs.declared.Answer.{Answer}
-use Rattle.manual.specs.declared.Told.{Told}
-use Rattle.manual.specs.declared.Popped.{Popped}
-use Rattle.manual.specs.Word.{bit, plus, minus}
-use Rattle.manual.specs.Registers.{addressOf, withAddress, withPc, withSr, withOther, withStopped}
-use Rattle.manual.specs.Memory.{Storage, Memory, storageOf, valueAt, storeAt, access, load, storing, stored}
-use Rattle.manual.specs.Reply.{Outcome, completed, unchanged, faultReply, isDone, accessing, loading, taking}
-use Rattle.manual.specs.Admitted.{status, admitted}
-use Rattle.manual.specs.Lent.{Lent, memoryOf, firstRefusal, checked}
-use Rattle.manual.specs.Differences.{keptM, frameBytes, vectorPlace, givenLevel}
+use Prim.Native.Nat.{ℕ, _+_, _*_, _/_, _%_}
+use mathlib.Core.{Bool.Bool, Bool.true, Bool.false, Bool.cond, Bool.not, Bool._&&_, Bool.Bool·beq}
+use lib.{Dec.ltb, Dec.leb}
+use Rattle.manual.specs.declared.{Cpu.Cpu, Size.the-variants.Long, Got.Got, Got.the-variants.Value, Got.the-variants.Fault as NoValue, Level.Level, Level.the-variants.Kept, Level.the-variants.To, Reply.Reply, Reply.the-variants.Done}
+use Rattle.manual.specs.declared.{Reply.the-variants.NotAdmitted, Reply.the-variants.OutOfRange, Reply.the-variants.Masked, Answer.Answer, Told.Told, Popped.Popped}
+use Rattle.manual.specs.{Word.bit, Word.plus, Word.minus, Bits.bitOf, Bits.withBit, Fields.bits, Registers.addressOf, Registers.withAddress, Registers.withPc, Registers.withSr, Registers.withOther, Registers.withStopped}
+use Rattle.manual.specs.{Memory.Storage, Memory.Memory, Memory.storageOf, Memory.valueAt, Memory.storeAt, Memory.access, Memory.load, Memory.storing, Memory.stored, Reply.Outcome, Reply.completed, Reply.unchanged, Reply.faultReply}
+use Rattle.manual.specs.{Reply.isDone, Reply.accessing, Reply.loading, Reply.taking, Admitted.status, Admitted.admitted, Lent.Lent, Lent.memoryOf, Lent.firstRefusal, Lent.checked, Differences.keptM, Differences.frameBytes}
+use Rattle.manual.specs.{Differences.vectorPlace, Differences.givenLevel}
 
 -- ---- the status register
 
 -- S, bit 13
 abbrev pub supervisor : ℕ → Bool
-supervisor sr = eqb (sr / 0x2000 % 2) 1
+supervisor sr = bitOf 13 sr
 
 -- the interrupt mask, bits 10 to 8
 abbrev pub maskOf : ℕ → ℕ
-maskOf sr = sr / 0x100 % 8
+maskOf sr = bits 10 8 sr
 
 -- CACR bit 5: there are two stack pointers
 abbrev pub twoStacks : Cpu → Bool
-twoStacks s = eqb (s .cacr / 0x20 % 2) 1
+twoStacks s = bitOf 5 (s .cacr)
 
 -- a new status register. Where there are two stack pointers and S changes, A7 and the other change places
 unfoldable pub setSr : ℕ → Cpu → Cpu
@@ -43,10 +31,14 @@ setSr v s =
     (withSr (status v) (withOther (addressOf (s .r) 7) (withAddress 7 (s .other) s)))
     (withSr (status v) s)
 
--- the status register in a handler: S is set, T is cleared, and the mask is raised to the level, if any
+-- another interrupt mask
+abbrev pub withMask : ℕ → ℕ → ℕ
+withMask sr mask = sr / 0x800 * 0x800 + mask + sr % 0x100
+
+-- the status register in a handler: S is set and T cleared; an interrupt sets the mask to its level too
 unfoldable pub handlerSr : Level → ℕ → ℕ
-handlerSr Kept sr = 0x2000 + keptM sr + sr % 0x1000
-handlerSr (To level) sr = 0x2000 + keptM sr + givenLevel level + sr % 0x100
+handlerSr Kept sr = withBit 13 true (withBit 15 false sr)
+handlerSr (To level) sr = withMask (keptM (withBit 13 true (withBit 15 false sr))) (givenLevel level)
 
 -- ---- the frame: two longs at a multiple of 4, the lower one with the format, the vector and the status register
 
@@ -64,7 +56,8 @@ framePlace sp = minus (pcPlace sp) 4
 abbrev pub framed : Storage → ℕ → ℕ → ℕ → ℕ → Storage
 framed b high low pc w = storeAt (storeAt b high 4 pc) low 4 w
 
--- the registers in the handler: A7 is at the frame, and the core is not stopped
+-- the registers in the handler: A7 is at the frame
+-- 8. An entry wakes a core that HALT stopped. The manual: the debug port alone does
 unfoldable pub handlerState : Cpu → ℕ → ℕ → Cpu
 handlerState t frame handler = withStopped false (withPc handler (withAddress 7 frame t))
 
@@ -107,6 +100,7 @@ exception s l vector pc level =
 unfoldable pub masked : ℕ → ℕ → Bool
 masked sr level = ltb level 7 && leb level (maskOf sr)
 
+-- 49. An interrupt is taken directly after an entry. The manual: not before the handler's first instruction is done
 unfoldable pub interrupt : Cpu → Lent → ℕ → ℕ → Outcome
 interrupt s l vector level =
     let m : Memory = memoryOf l in

@@ -1,13 +1,10 @@
 -- The condition codes: bits 4 to 0 of the status register are X, N, Z, V and C.
 -- The manual: "Condition Code Register (CCR)", and "Condition Codes" at each instruction.
-use Prim.Native.Nat.{ℕ, _+_, _-_, _*_, _/_, _%_}
-use mathlib.Core.Bool.{Bool, true, false, cond, not, _&&_, _||_}
-use lib.Dec.{ltb, leb, eqb}
-use lib.IntN.{pos, _+ℤ_, _-ℤ_}
-use Rattle.manual.specs.declared.Size.{Size}
-use Rattle.manual.specs.declared.Sum.{Sum}
-use Rattle.manual.specs.Bits.{bitOf, withBit}
-use Rattle.manual.specs.Word.{bit, cut, half, numbers, signed, fits}
+use Prim.Native.Nat.{ℕ, _+_, _-_, _*_, _%_}
+use mathlib.Core.{Bool.Bool, Bool.false, Bool.cond, Bool.not, Bool._&&_}
+use lib.{Dec.ltb, Dec.leb, Dec.eqb, IntN.pos, IntN._+ℤ_, IntN._-ℤ_}
+use Rattle.manual.specs.declared.{Size.Size, Sum.Sum}
+use Rattle.manual.specs.{Bits.bitOf, Bits.withBit, Word.bit, Word.cut, Word.half, Word.numbers, Word.signed, Word.fits}
 
 abbrev pub flagX : ℕ → Bool
 flagX sr = bitOf 4 sr

@@ -1,18 +1,10 @@
 -- Image files and what a run of one prints. An image is version 1, four bytes that say how many follow them, the program
 -- counter, A7, the status register, the budget, and the bytes that go to address 0 of 49,152 zeroed ones.
-use Prim.Native.Nat.{ℕ, zero, suc, _+_, _-_, _*_, _/_, _%_, _^_}
-use mathlib.Core.Bool.{Bool, true, false, cond, _&&_, _||_}
-use mathlib.Core.List.{List, [], _∷_, _++_}
-use lib.Dec.{eqb, ltb, leb}
-use lib.ListN.{length, getD, take, drop, replicate}
-use Rattle.manual.specs.declared.Cpu.{Cpu}
-use Rattle.manual.specs.declared.Reply.{Reply}
-use Rattle.manual.specs.declared.Reply.the-variants.{Done, NotAdmitted, WrongVersion, WrongLength}
-use Rattle.manual.specs.Registers.{withAddress, withPc, withSr}
-use Rattle.manual.specs.Memory.{Storage, valueAt}
-use Rattle.manual.specs.Admitted.{admitted}
-use Rattle.manual.specs.Reply.{numberOf, isDone}
-use Rattle.manual.specs.Block.{fresh, versionAt, lengthAt, headBytes}
+use Prim.Native.Nat.{ℕ, zero, suc, _+_, _-_, _/_, _%_}
+use mathlib.Core.{Bool.cond, Bool._&&_, List.List, List.[], List._∷_, List._++_}
+use lib.{Dec.eqb, Dec.ltb, Dec.leb, ListN.length, ListN.getD, ListN.drop, ListN.replicate}
+use Rattle.manual.specs.declared.{Cpu.Cpu, Reply.Reply, Reply.the-variants.Done, Reply.the-variants.NotAdmitted, Reply.the-variants.WrongVersion, Reply.the-variants.WrongLength}
+use Rattle.manual.specs.{Registers.withAddress, Registers.withPc, Registers.withSr, Memory.Storage, Memory.valueAt, Admitted.admitted, Reply.numberOf, Reply.isDone, Block.fresh, Block.versionAt, Block.lengthAt, Block.headBytes}
 
 -- ---- the file
 

@@ -1,15 +1,10 @@
 -- What is lent to a call beside the state, and the tests that come before everything else that a call does.
 -- Document: "Numbered replies". A test that refuses before a call begins belongs here, in the document's order.
 use Prim.Native.Nat.{ℕ}
-use mathlib.Core.Bool.{Bool, true, false, cond}
-use lib.Dec.{ltb}
-use lib.ListN.{length}
-use Rattle.manual.specs.declared.Cpu.{Cpu}
-use Rattle.manual.specs.declared.Reply.{Reply}
-use Rattle.manual.specs.declared.Reply.the-variants.{Done, TooLong, NotAdmitted}
-use Rattle.manual.specs.Memory.{Storage, Memory, mapped}
-use Rattle.manual.specs.Reply.{Outcome, unchanged, isDone}
-use Rattle.manual.specs.Admitted.{admitted}
+use mathlib.Core.{Bool.Bool, Bool.cond}
+use lib.{Dec.ltb, ListN.length}
+use Rattle.manual.specs.declared.{Cpu.Cpu, Reply.Reply, Reply.the-variants.Done, Reply.the-variants.TooLong, Reply.the-variants.NotAdmitted}
+use Rattle.manual.specs.{Memory.Storage, Memory.Memory, Memory.mapped, Reply.Outcome, Reply.unchanged, Reply.isDone, Admitted.admitted}
 
 pub record Lent : Type 0 where
   pub storage : Storage

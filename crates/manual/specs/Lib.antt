@@ -1,5 +1,6 @@
 pub mod Word
 pub mod Bits
+pub mod Fields
 pub mod Registers
 pub mod Differences
 pub mod Flags
@@ -16,5 +17,6 @@ pub mod Admitted
 pub mod Lent
 pub mod Exceptions
 pub mod EmacCalls
+pub mod UnitCalls
 pub mod Block
 pub mod Image

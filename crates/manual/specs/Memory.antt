@@ -2,22 +2,11 @@
 -- The manual: "Organization of Data in Memory". An access of n bytes at a is inside exactly when a + n is at most the length.
 -- Everything else asks for an access here, and knows neither where its bytes lie nor how long storage is.
 use Prim.Native.Nat.{ℕ, zero, suc, _+_, _*_, _/_, _%_}
-use mathlib.Core.Bool.{Bool, true, false, cond}
-use mathlib.Core.List.{List}
-use lib.Dec.{leb, eqb}
-use lib.ListN.{length, getD, set}
-use Rattle.manual.specs.declared.Size.{Size}
-use Rattle.manual.specs.declared.Size.the-variants.{Byte, Word, Long}
-use Rattle.manual.specs.declared.Fault.{Fault as Faults}
-use Rattle.manual.specs.declared.Fault.the-variants.{Outside}
-use Rattle.manual.specs.declared.Access.{Access}
-use Rattle.manual.specs.declared.Access.the-variants.{Here, Not}
-use Rattle.manual.specs.declared.Got.{Got}
-use Rattle.manual.specs.declared.Got.the-variants.{Value, Fault}
-use Rattle.manual.specs.declared.Stored.{Stored}
-use Rattle.manual.specs.declared.Stored.the-variants.{Done, Fault as NotStored}
-use Rattle.manual.specs.Word.{bytes, plus}
-use Rattle.manual.specs.Registers.{general, written}
+use mathlib.Core.{Bool.Bool, Bool.cond, List.List}
+use lib.{Dec.leb, Dec.eqb, ListN.length, ListN.getD, ListN.set}
+use Rattle.manual.specs.declared.{Size.Size, Size.the-variants.Long, Fault.the-variants.Outside, Access.Access, Access.the-variants.Here, Access.the-variants.Not, Got.Got, Got.the-variants.Value, Got.the-variants.Fault, Stored.Stored}
+use Rattle.manual.specs.declared.{Stored.the-variants.Done, Stored.the-variants.Fault as NotStored}
+use Rattle.manual.specs.{Word.bytes, Word.plus, Registers.general}
 
 -- the bytes that are lent, by place
 abbrev pub Storage : Type 0

@@ -1,22 +1,18 @@
 -- The registers: a list of 16, D0 to D7 and then A0 to A7, and the state with one of its parts replaced.
 -- The manual: "User Programming Model" and "Supervisor Programming Model".
 use Prim.Native.Nat.{ℕ, _+_, _*_, _/_, _%_}
-use mathlib.Core.Bool.{Bool, true, false, cond}
-use mathlib.Core.List.{List}
-use lib.Dec.{ltb}
-use lib.ListN.{getD, set}
-use Rattle.manual.specs.declared.Cpu.{Cpu}
-use Rattle.manual.specs.declared.Emac.{Emac}
-use Rattle.manual.specs.declared.Write.{Write}
-use Rattle.manual.specs.declared.Change.{Change}
+use mathlib.Core.{Bool.Bool, Bool.cond, List.List}
+use lib.{Dec.ltb, ListN.getD, ListN.set}
+use Rattle.manual.specs.declared.{Cpu.Cpu, Emac.Emac, Write.Write, Change.Change}
 
+-- Dn and An, modulo 8
 unfoldable pub dataOf : List ℕ → ℕ → ℕ
 dataOf g r = getD g (r % 8) 0
 
 unfoldable pub addressOf : List ℕ → ℕ → ℕ
 addressOf g r = getD g (8 + r % 8) 0
 
--- Rn, by the four bits that name it
+-- Rn, modulo 16
 unfoldable pub general : List ℕ → ℕ → ℕ
 general g n = getD g (n % 16) 0
 
@@ -68,6 +64,7 @@ unfoldable pub withStopped : Bool → Cpu → Cpu
 withStopped b s = withAll (s .r) (s .pc) (s .sr) (s .other) (s .emac) b s
 
 -- the status register with other condition codes
+-- 34. CCR has five bits. The manual: V3 cores have a sixth, P, bit 7
 unfoldable pub coded : ℕ → ℕ → ℕ
 coded sr c = sr / 32 * 32 + c % 32
 

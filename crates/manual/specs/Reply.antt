@@ -1,20 +1,12 @@
 -- The answers: what number each reply has, and what a call hands back with memory. Document: "Numbered replies".
 use Prim.Native.Nat.{ℕ}
-use mathlib.Core.Bool.{Bool}
-use lib.Dec.{eqb}
-use Rattle.manual.specs.declared.Fault.{Fault}
-use Rattle.manual.specs.declared.Fault.the-variants.{Outside}
-use Rattle.manual.specs.declared.Access.{Access}
-use Rattle.manual.specs.declared.Access.the-variants.{Here, Not}
-use Rattle.manual.specs.declared.Got.{Got}
-use Rattle.manual.specs.declared.Got.the-variants.{Value, Fault as NoValue}
-use Rattle.manual.specs.declared.Stored.{Stored}
-use Rattle.manual.specs.declared.Stored.the-variants.{Done as Taken, Fault as NotTaken}
-use Rattle.manual.specs.declared.Cpu.{Cpu}
-use Rattle.manual.specs.declared.Reply.{Reply}
-use Rattle.manual.specs.declared.Reply.the-variants.{Done, TooLong, NotAdmitted, Stopped, NotInside, NotCarried, OutOfRange, Masked, WrongVersion, WrongLength}
-use Rattle.manual.specs.declared.Stepped.{Stepped}
-use Rattle.manual.specs.Memory.{Storage, Memory, storageOf}
+use mathlib.Core.{Bool.Bool}
+use lib.{Dec.eqb}
+use Rattle.manual.specs.declared.{Fault.Fault, Fault.the-variants.Outside, Access.Access, Access.the-variants.Here, Access.the-variants.Not, Got.Got, Got.the-variants.Value, Got.the-variants.Fault as NoValue, Stored.Stored}
+use Rattle.manual.specs.declared.{Stored.the-variants.Done as Taken, Stored.the-variants.Fault as NotTaken, Cpu.Cpu, Reply.Reply, Reply.the-variants.Done, Reply.the-variants.TooLong, Reply.the-variants.NotAdmitted}
+use Rattle.manual.specs.declared.{Reply.the-variants.Stopped, Reply.the-variants.NotInside, Reply.the-variants.NotCarried, Reply.the-variants.OutOfRange, Reply.the-variants.Masked, Reply.the-variants.WrongVersion}
+use Rattle.manual.specs.declared.{Reply.the-variants.WrongLength, Stepped.Stepped}
+use Rattle.manual.specs.{Memory.Storage, Memory.Memory, Memory.storageOf}
 
 abbrev pub numberOf : Reply → ℕ
 numberOf Done = 0
@@ -33,6 +25,7 @@ abbrev pub isDone : Reply → Bool
 isDone n = eqb (numberOf n) 0
 
 -- the reply to an access that memory does not take
+-- 6. The step is refused. The manual: an access error, vector 2
 abbrev pub faultReply : Fault → Reply
 faultReply Outside = NotInside
 

@@ -1,14 +1,10 @@
 -- Shifts of a long by 0 to 63 places: a multiplication or a floor division by a power of two.
 -- The manual: ASL, ASR, LSL, LSR. The carry is the last bit that was shifted out, and 0 where there was none.
-use mathlib.Core.Bool.{Bool, true, false, cond}
-use Prim.Native.Nat.{ℕ, _+_, _*_, _/_, _%_, _^_}
-use lib.Dec.{eqb, leb}
-use lib.IntN.{_+ℤ_}
-use lib.Signed.{shrZ}
-use Rattle.manual.specs.declared.Size.the-variants.{Long}
-use Rattle.manual.specs.declared.Shifted.{Shifted}
-use Rattle.manual.specs.Word.{signed, modZ}
-use Rattle.manual.specs.Flags.{codes, flagX}
+use Prim.Native.Nat.{ℕ, _*_, _/_, _%_, _^_}
+use mathlib.Core.{Bool.false, Bool.cond}
+use lib.{Dec.eqb, Dec.leb, IntN._+ℤ_, Signed.shrZ}
+use Rattle.manual.specs.declared.{Size.the-variants.Long, Shifted.Shifted}
+use Rattle.manual.specs.{Word.signed, Word.modZ, Flags.codes, Flags.flagX}
 
 -- LSL and ASL: v times 2^n. The 32 low bits are the result, and bit 32 is the last that went out
 unfoldable pub shiftedLeft : ℕ → ℕ → Shifted

@@ -1,13 +1,9 @@
 -- Numbers of 8, 16 and 32 bits, and the whole numbers that they stand for.
 -- The manual: "Integer Data Formats" and "Organization of Integer Data Formats in Registers".
 use Prim.Native.Nat.{ℕ, suc, _+_, _-_, _*_, _/_, _%_, _^_}
-use mathlib.Core.Bool.{Bool, true, false, cond}
-use mathlib.Core.List.{List, [], _∷_}
-use lib.Dec.{ltb}
-use lib.ListN.{getD}
-use lib.IntN.{ℤ, pos, negsuc}
-use Rattle.manual.specs.declared.Size.{Size}
-use Rattle.manual.specs.declared.Size.the-variants.{Byte, Word, Long}
+use mathlib.Core.{Bool.Bool, Bool.true, Bool.false, Bool.cond, List.[], List._∷_}
+use lib.{Dec.ltb, ListN.getD, IntN.ℤ, IntN.pos, IntN.negsuc}
+use Rattle.manual.specs.declared.{Size.Size, Size.the-variants.Byte, Size.the-variants.Word, Size.the-variants.Long}
 
 abbrev pub bytes : Size → ℕ
 bytes Byte = 1
@@ -26,9 +22,15 @@ numbers Byte = 0x100
 numbers Word = 0x1_0000
 numbers Long = 0x1_0000_0000
 
--- the size that two bits of an opcode word name
+-- the size that two bits of an opcode word name. 3 names none: a word with it is of another row
 unfoldable pub sizeOf : ℕ → Size
-sizeOf n = getD (Byte ∷ Word ∷ []) (n % 4) Long
+sizeOf n =
+    getD
+    (Byte ∷  -- 0
+    Word ∷  -- 1
+    Long ∷  -- 2
+    [])
+    n Long
 
 -- the low bits of a number
 unfoldable pub cut : Size → ℕ → ℕ

@@ -228,6 +228,12 @@ pub struct Popped {
     pub cpu: Cpu,
 }
 
+// What a call on a unit alone answers: the reply and the unit.
+pub struct EmacAnswer {
+    pub reply: Reply,
+    pub emac: Emac,
+}
+
 // What any other call answers: the reply and the state.
 pub struct Answer {
     pub reply: Reply,

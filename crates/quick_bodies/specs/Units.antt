@@ -13,7 +13,8 @@ use Rattle.manual.specs.Flags.{keptCodes}
 use Rattle.manual.specs.Memory.{Memory, load}
 use Rattle.manual.specs.Change.{reading}
 use Rattle.manual.specs.Emac.{emacOf, accumulate}
-use Rattle.instructions.specs.LineA.{highRegister, accumulating}
+use Rattle.manual.specs.Fields.{bits, macRegister, lowFour, highFour}
+use Rattle.instructions.specs.LineA.{accumulating}
 use Rattle.quick_parts.specs.declared.Spot.{Spot}
 use Rattle.quick_parts.specs.declared.Spot.the-variants.{At, NotNear}
 use Rattle.quick_bodies.specs.declared.mac.Summed.{Summed}
@@ -92,9 +93,9 @@ loading g sr op w v next step =
     record {
       pc = next;
       ccr = keptCodes sr;
-      first = writeGeneral (highRegister op) v;
+      first = writeGeneral (macRegister op) v;
       second = step;
-      action = accumulating w (1 - op / 128 % 2 + w / 16 % 2 * 2) (general g (w / 0x1000)) (general g w);
+      action = accumulating w (1 - bits 7 7 op + bits 4 4 w * 2) (general g (highFour w)) (general g (lowFour w));
     }
 
 -- the change that loads from a spot. `NotNear` says nothing

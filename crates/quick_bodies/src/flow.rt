@@ -91,7 +91,7 @@ pub fn movem_store(g: &[u32; 16], pc: u32, sr: u16, mem: &mut [u8], op: u32) -> 
         Got::Value(mask) => mask,
         Got::Fault(_) => return Effect::Left,
     };
-    let a = address(g, op);
+    let a = address(g, op % 8);
     let same = coded(sr, kept_codes(sr));
     if op / 8 % 8 == 2 {
         return match store_many(mem, g, mask, a) {
@@ -122,7 +122,7 @@ pub fn movem_load(g: &mut [u32; 16], pc: u32, sr: u16, mem: &[u8], op: u32) -> E
         Got::Value(mask) => mask,
         Got::Fault(_) => return Effect::Left,
     };
-    let a = address(&*g, op);
+    let a = address(&*g, op % 8);
     let same = coded(sr, kept_codes(sr));
     if op / 8 % 8 == 2 {
         return match load_many(mem, g, mask, a) {

@@ -38,11 +38,15 @@ pub fn and_to_data(g: &mut [u32; 16], pc: u32, sr: u16, mem: &[u8], op: u32) -> 
     let Reading::Read(v, next, first) = read_long(&*g, mem, plus(pc, 2), op) else {
         return Effect::Left;
     };
-    let old = data(&*g, op / 512);
+    let old = data(&*g, op / 512 % 8);
     let r = logic(Logic::And, v, old);
     let codes = long_move_codes(r, sr);
     let whole = merged(Size::Long, old, r);
-    changed(g, sr, done(next, codes, first, write_data(op / 512, whole)))
+    changed(
+        g,
+        sr,
+        done(next, codes, first, write_data(op / 512 % 8, whole)),
+    )
 }
 
 // LineB.logicToPlace Eor, of a long in Dn
@@ -57,7 +61,7 @@ pub fn eor_to_data(g: &mut [u32; 16], pc: u32, sr: u16, op: u32) -> Effect
     }
     let next = plus(plus(pc, 2), 0);
     let old = data(&*g, op % 8);
-    let r = logic(Logic::Eor, cut(Size::Long, old), data(&*g, op / 512));
+    let r = logic(Logic::Eor, cut(Size::Long, old), data(&*g, op / 512 % 8));
     let codes = long_move_codes(r, sr);
     let whole = merged(Size::Long, old, r);
     changed(
@@ -79,9 +83,13 @@ pub fn mul_l(g: &mut [u32; 16], pc: u32, sr: u16, mem: &[u8], op: u32) -> Effect
     let Reading::Read(v, next, first) = read_long(&*g, mem, plus(at, 2), op) else {
         return Effect::Left;
     };
-    let r = product(w, data(&*g, w / 0x1000), v);
+    let r = product(w, data(&*g, w / 0x1000 % 8), v);
     let codes = long_move_codes(r, sr);
-    changed(g, sr, done(next, codes, first, write_data(w / 0x1000, r)))
+    changed(
+        g,
+        sr,
+        done(next, codes, first, write_data(w / 0x1000 % 8, r)),
+    )
 }
 
 // Line0.bitByRegister, of Dn
@@ -91,7 +99,7 @@ pub fn bit_by_register(g: &mut [u32; 16], pc: u32, sr: u16, op: u32) -> Effect
     if op / 8 % 8 != 0 {
         return Effect::Left;
     }
-    let n = data(&*g, op / 512);
+    let n = data(&*g, op / 512 % 8);
     changed(g, sr, bit_of_data(&*g, plus(pc, 2), sr, op, n))
 }
 

@@ -41,7 +41,7 @@ fn mac_registers(g: &[u32; 16], pc: u32, op: u32, w: u32) -> Product
 {
     let i = op / 128 % 2 + w / 16 % 2 * 2;
     let x = general(g, op / 64 % 2 * 8 + op / 512 % 8);
-    let y = general(g, op);
+    let y = general(g, op % 16);
     Product::Of(plus(pc, 4), i, w / 512 % 4, w / 256 % 2 == 1, x, y)
 }
 
@@ -51,16 +51,16 @@ fn load_spot(g: &[u32; 16], pc: u32, mask: u32, mem: &[u8], op: u32, w: u32) -> 
     requires { ⌜ (w / 0x800 % 2 ≡ 0 → ⊥) ⌝ }
     ensures { λ s. ⌜ ((sr : ℕ) → fromSpot s (now (g .entry)) sr (mapped (now (mem .entry))) op w (macWithLoad (now (g .entry)) pc sr mask (mapped (now (mem .entry))) op w) ≡ macWithLoad (now (g .entry)) pc sr mask (mapped (now (mem .entry))) op w) ⌝ }
 {
-    let r = address(g, op);
+    let r = address(g, op % 8);
     match op / 8 % 8 {
         2 => Spot::At(load_address(mask, w, r), plus(pc, 4), no_write()),
         3 => {
             let a = load_address(mask, w, r);
-            Spot::At(a, plus(pc, 4), write_address(op, plus(a, 4)))
+            Spot::At(a, plus(pc, 4), write_address(op % 8, plus(a, 4)))
         }
         4 => {
             let a = load_address(mask, w, minus(r, 4));
-            Spot::At(a, plus(pc, 4), write_address(op, a))
+            Spot::At(a, plus(pc, 4), write_address(op % 8, a))
         }
         5 => match load(mem, plus(pc, 4), Size::Word) {
             Got::Value(d) => {
@@ -85,8 +85,8 @@ fn mac_with_load(g: &mut [u32; 16], pc: u32, mask: u32, mem: &[u8], op: u32, w: 
         return Product::Left;
     };
     let i = 1 - op / 128 % 2 + w / 16 % 2 * 2;
-    let x = general(&*g, w / 0x1000);
-    let y = general(&*g, w);
+    let x = general(&*g, w / 0x1000 % 16);
+    let y = general(&*g, w % 16);
     write(g, write_general(op / 64 % 2 * 8 + op / 512 % 8, v));
     write(g, moved);
     Product::Of(next, i, w / 512 % 4, w / 256 % 2 == 1, x, y)

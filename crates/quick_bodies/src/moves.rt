@@ -41,8 +41,12 @@ pub fn move_long(g: &mut [u32; 16], pc: u32, sr: u16, mem: &mut [u8], op: u32) -
     };
     let codes = long_move_codes(v, sr);
     if op / 64 % 8 == 0 {
-        let whole = merged(Size::Long, data(&*g, op / 512), v);
-        return changed(g, sr, done(next, codes, first, write_data(op / 512, whole)));
+        let whole = merged(Size::Long, data(&*g, op / 512 % 8), v);
+        return changed(
+            g,
+            sr,
+            done(next, codes, first, write_data(op / 512 % 8, whole)),
+        );
     }
     let r = op / 512 % 8;
     let a = address_after(&*g, first, r);
@@ -65,7 +69,7 @@ pub fn movea(g: &mut [u32; 16], pc: u32, sr: u16, mem: &[u8], op: u32) -> Effect
     changed(
         g,
         sr,
-        done(next, codes, first, write_address(op / 512, whole)),
+        done(next, codes, first, write_address(op / 512 % 8, whole)),
     )
 }
 
@@ -86,7 +90,7 @@ pub fn lea(g: &mut [u32; 16], pc: u32, sr: u16, mem: &[u8], op: u32) -> Effect
         return changed(
             g,
             sr,
-            done(next, codes, no_write(), write_address(op / 512, a)),
+            done(next, codes, no_write(), write_address(op / 512 % 8, a)),
         );
     }
     if op / 8 % 8 != 7 {
@@ -98,7 +102,7 @@ pub fn lea(g: &mut [u32; 16], pc: u32, sr: u16, mem: &[u8], op: u32) -> Effect
     changed(
         g,
         sr,
-        done(next, codes, no_write(), write_address(op / 512, offset)),
+        done(next, codes, no_write(), write_address(op / 512 % 8, offset)),
     )
 }
 

@@ -20,6 +20,7 @@ use word::registers::data;
 use word::registers::no_write;
 use word::registers::write_address;
 use word::registers::write_data;
+use word::word::byte_or_word;
 use word::word::merged;
 use word::word::plus;
 use word::word::sign_extended;
@@ -29,7 +30,8 @@ ghost use Prim.Native.Nat.{ℕ, _+_, _*_, _/_, _%_};
 ghost use Rattle.manual.specs.Memory.{Memory, mapped, storageOf};
 ghost use Rattle.manual.specs.declared.Size.the-variants.{Word};
 ghost use Rattle.manual.specs.declared.Emac.{Emac};
-ghost use Rattle.manual.specs.Word.{plus as plusOf, sizeOf};
+ghost use Rattle.manual.specs.Word.{plus as plusOf};
+ghost use Rattle.manual.specs.Fields.{sizeField, byteOrWord};
 ghost use Rattle.manual.specs.Address.{source};
 ghost use Rattle.instructions.specs.Moves.{move as moveOf, movea as moveaOf};
 ghost use Rattle.instructions.specs.Line4.{tst as tstOf};
@@ -55,8 +57,12 @@ fn move_part(
 {
     let codes = move_codes(z, v, sr);
     if op / 64 % 8 == 0 {
-        let whole = merged(z, data(&*g, op / 512), v);
-        return changed(g, sr, done(next, codes, first, write_data(op / 512, whole)));
+        let whole = merged(z, data(&*g, op / 512 % 8), v);
+        return changed(
+            g,
+            sr,
+            done(next, codes, first, write_data(op / 512 % 8, whole)),
+        );
     }
     let r = op / 512 % 8;
     let a = address_after(&*g, first, r);
@@ -76,30 +82,34 @@ fn movea(g: &mut [u32; 16], sr: u16, op: u32, v: u32, next: u32, first: Write) -
     changed(
         g,
         sr,
-        done(next, codes, first, write_address(op / 512, whole)),
+        done(next, codes, first, write_address(op / 512 % 8, whole)),
     )
 }
 
 // Line7.mvz
 fn mvz(g: &mut [u32; 16], sr: u16, op: u32, v: u32, next: u32, first: Write) -> Effect
-    ensures { λ r. ⌜ ((at : ℕ) (m : Memory) → source (now (g .entry)) m (plusOf at 2) op (sizeOf (op / 64 % 2)) ≡ readAs v next first → after r (now (g .exit)) (storageOf m) ≡ agreed r (mvzOf (now (g .entry)) at sr m op) sr (now (g .entry)) m) ⌝ }
+    ensures { λ r. ⌜ ((at : ℕ) (m : Memory) → source (now (g .entry)) m (plusOf at 2) op (byteOrWord op) ≡ readAs v next first → after r (now (g .exit)) (storageOf m) ≡ agreed r (mvzOf (now (g .entry)) at sr m op) sr (now (g .entry)) m) ⌝ }
 {
     let codes = long_move_codes(v, sr);
-    changed(g, sr, done(next, codes, first, write_data(op / 512, v)))
+    changed(g, sr, done(next, codes, first, write_data(op / 512 % 8, v)))
 }
 
 // Line7.mvs
 fn mvs(g: &mut [u32; 16], sr: u16, op: u32, v: u32, next: u32, first: Write) -> Effect
-    ensures { λ r. ⌜ ((at : ℕ) (m : Memory) → source (now (g .entry)) m (plusOf at 2) op (sizeOf (op / 64 % 2)) ≡ readAs v next first → after r (now (g .exit)) (storageOf m) ≡ agreed r (mvsOf (now (g .entry)) at sr m op) sr (now (g .entry)) m) ⌝ }
+    ensures { λ r. ⌜ ((at : ℕ) (m : Memory) → source (now (g .entry)) m (plusOf at 2) op (byteOrWord op) ≡ readAs v next first → after r (now (g .exit)) (storageOf m) ≡ agreed r (mvsOf (now (g .entry)) at sr m op) sr (now (g .entry)) m) ⌝ }
 {
-    let whole = sign_extended(size_of(op / 64 % 2), v);
+    let whole = sign_extended(byte_or_word(op), v);
     let codes = long_move_codes(whole, sr);
-    changed(g, sr, done(next, codes, first, write_data(op / 512, whole)))
+    changed(
+        g,
+        sr,
+        done(next, codes, first, write_data(op / 512 % 8, whole)),
+    )
 }
 
 // Line4.tst
 fn tst(g: &mut [u32; 16], sr: u16, op: u32, v: u32, next: u32, first: Write) -> Effect
-    ensures { λ r. ⌜ ((at : ℕ) (m : Memory) → source (now (g .entry)) m (plusOf at 2) op (sizeOf (op / 64)) ≡ readAs v next first → after r (now (g .exit)) (storageOf m) ≡ agreed r (tstOf (now (g .entry)) at sr m op) sr (now (g .entry)) m) ⌝ }
+    ensures { λ r. ⌜ ((at : ℕ) (m : Memory) → source (now (g .entry)) m (plusOf at 2) op (sizeField op) ≡ readAs v next first → after r (now (g .exit)) (storageOf m) ≡ agreed r (tstOf (now (g .entry)) at sr m op) sr (now (g .entry)) m) ⌝ }
 {
     let codes = move_codes(size_of(op / 64), v, sr);
     changed(g, sr, done(next, codes, first, no_write()))
@@ -117,9 +127,9 @@ fn mul_w(
 ) -> Effect
     ensures { λ r. ⌜ ((at : ℕ) (m : Memory) → source (now (g .entry)) m (plusOf at 2) op Word ≡ readAs v next first → after r (now (g .exit)) (storageOf m) ≡ agreed r (mulW signs (now (g .entry)) at sr m op) sr (now (g .entry)) m) ⌝ }
 {
-    let r = product(signs, data(&*g, op / 512), v);
+    let r = product(signs, data(&*g, op / 512 % 8), v);
     let codes = long_move_codes(r, sr);
-    changed(g, sr, done(next, codes, first, write_data(op / 512, r)))
+    changed(g, sr, done(next, codes, first, write_data(op / 512 % 8, r)))
 }
 
 fn part_of(row: u8, op: u32) -> Size
@@ -128,8 +138,8 @@ fn part_of(row: u8, op: u32) -> Size
     match row {
         rows::MOVE_B => Size::Byte,
         rows::TST => size_of(op / 64),
-        rows::MVS => size_of(op / 64 % 2),
-        rows::MVZ => size_of(op / 64 % 2),
+        rows::MVS => byte_or_word(op),
+        rows::MVZ => byte_or_word(op),
         _ => Size::Word,
     }
 }

@@ -45,7 +45,7 @@ pub fn cmp(g: &mut [u32; 16], pc: u32, sr: u16, mem: &[u8], op: u32) -> Effect
     let Reading::Read(v, next, first) = read_long(&*g, mem, plus(pc, 2), op) else {
         return Effect::Left;
     };
-    let old = data(&*g, op / 512);
+    let old = data(&*g, op / 512 % 8);
     let codes = long_compare_codes(sr, v, old);
     changed(g, sr, done(next, codes, first, no_write()))
 }
@@ -57,7 +57,7 @@ pub fn cmpa(g: &mut [u32; 16], pc: u32, sr: u16, mem: &[u8], op: u32) -> Effect
     let Reading::Read(v, next, first) = read_long(&*g, mem, plus(pc, 2), op) else {
         return Effect::Left;
     };
-    let old = address_after(&*g, first, op / 512);
+    let old = address_after(&*g, first, op / 512 % 8);
     let codes = long_compare_codes(sr, sign_extended(Size::Long, v), old);
     changed(g, sr, done(next, codes, first, no_write()))
 }
@@ -72,10 +72,14 @@ pub fn add_to_data(g: &mut [u32; 16], pc: u32, sr: u16, mem: &[u8], op: u32) -> 
     let Reading::Read(v, next, first) = read_long(&*g, mem, plus(pc, 2), op) else {
         return Effect::Left;
     };
-    let old = data(&*g, op / 512);
+    let old = data(&*g, op / 512 % 8);
     let codes = long_sum_codes(v, old);
     let whole = merged(Size::Long, old, long_sum(v, old));
-    changed(g, sr, done(next, codes, first, write_data(op / 512, whole)))
+    changed(
+        g,
+        sr,
+        done(next, codes, first, write_data(op / 512 % 8, whole)),
+    )
 }
 
 // Line9D.addToData false, of a long
@@ -88,10 +92,14 @@ pub fn sub_to_data(g: &mut [u32; 16], pc: u32, sr: u16, mem: &[u8], op: u32) -> 
     let Reading::Read(v, next, first) = read_long(&*g, mem, plus(pc, 2), op) else {
         return Effect::Left;
     };
-    let old = data(&*g, op / 512);
+    let old = data(&*g, op / 512 % 8);
     let codes = long_difference_codes(v, old);
     let whole = merged(Size::Long, old, long_difference(v, old));
-    changed(g, sr, done(next, codes, first, write_data(op / 512, whole)))
+    changed(
+        g,
+        sr,
+        done(next, codes, first, write_data(op / 512 % 8, whole)),
+    )
 }
 
 // Line9D.adda true Long
@@ -101,13 +109,13 @@ pub fn adda(g: &mut [u32; 16], pc: u32, sr: u16, mem: &[u8], op: u32) -> Effect
     let Reading::Read(v, next, first) = read_long(&*g, mem, plus(pc, 2), op) else {
         return Effect::Left;
     };
-    let old = address_after(&*g, first, op / 512);
+    let old = address_after(&*g, first, op / 512 % 8);
     let codes = kept_codes(sr);
     let whole = plus(old, sign_extended(Size::Long, v));
     changed(
         g,
         sr,
-        done(next, codes, first, write_address(op / 512, whole)),
+        done(next, codes, first, write_address(op / 512 % 8, whole)),
     )
 }
 
@@ -118,13 +126,13 @@ pub fn suba(g: &mut [u32; 16], pc: u32, sr: u16, mem: &[u8], op: u32) -> Effect
     let Reading::Read(v, next, first) = read_long(&*g, mem, plus(pc, 2), op) else {
         return Effect::Left;
     };
-    let old = address_after(&*g, first, op / 512);
+    let old = address_after(&*g, first, op / 512 % 8);
     let codes = kept_codes(sr);
     let whole = minus(old, sign_extended(Size::Long, v));
     changed(
         g,
         sr,
-        done(next, codes, first, write_address(op / 512, whole)),
+        done(next, codes, first, write_address(op / 512 % 8, whole)),
     )
 }
 
@@ -139,16 +147,25 @@ pub fn addq(g: &mut [u32; 16], pc: u32, sr: u16, op: u32) -> Effect
         return Effect::Left;
     }
     let n = quick_number(op);
-    let old = data(&*g, op);
-    let next = plus(pc, 2);
+    let next = plus(plus(pc, 2), 0);
+    let old = data(&*g, op % 8);
+    let v = cut(Size::Long, old);
     if op / 256 % 2 == 0 {
-        let codes = long_sum_codes(n, old);
-        let whole = merged(Size::Long, old, long_sum(n, old));
-        return changed(g, sr, done(next, codes, no_write(), write_data(op, whole)));
+        let codes = long_sum_codes(n, v);
+        let whole = merged(Size::Long, old, long_sum(n, v));
+        return changed(
+            g,
+            sr,
+            done(next, codes, no_write(), write_data(op % 8, whole)),
+        );
     }
-    let codes = long_difference_codes(n, old);
-    let whole = merged(Size::Long, old, long_difference(n, old));
-    changed(g, sr, done(next, codes, no_write(), write_data(op, whole)))
+    let codes = long_difference_codes(n, v);
+    let whole = merged(Size::Long, old, long_difference(n, v));
+    changed(
+        g,
+        sr,
+        done(next, codes, no_write(), write_data(op % 8, whole)),
+    )
 }
 
 // Line0.cmpi Long
@@ -160,7 +177,7 @@ pub fn cmpi(g: &mut [u32; 16], pc: u32, sr: u16, mem: &[u8], op: u32) -> Effect
         Got::Value(v) => v,
         Got::Fault(_) => return Effect::Left,
     };
-    let old = data(&*g, op);
+    let old = data(&*g, op % 8);
     let next = plus(at, 4);
     let codes = long_compare_codes(sr, cut(Size::Long, v), old);
     let none = no_write();

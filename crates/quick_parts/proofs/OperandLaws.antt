@@ -14,6 +14,7 @@ use Rattle.manual.specs.Registers.{dataOf, addressOf, general, noWrite}
 use Rattle.manual.specs.Memory.{Memory, load}
 use Rattle.manual.specs.Address.{source, operand, value, fetch, locate, immediate, extension, moved}
 use Rattle.word.specs.TestLaws.{by-lt}
+use Rattle.address.specs.PartLaws.{part-cut}
 use Rattle.quick_parts.specs.Near.{Located, located, inMemory, spotted, readAs, Readable}
 use Rattle.quick_parts.specs.declared.Spot.{Spot}
 use Rattle.quick_parts.specs.declared.Spot.the-variants.{At, NotNear}
@@ -23,7 +24,7 @@ module _ (z : Size) (g : List ℕ) (m : Memory) (pc op : ℕ) where
   unfolding source operand value fetch locate extension moved general dataOf addressOf
   register h = by-lt (op / 8 % 8) 1
       (λ l. let e : op / 8 % 8 ≡ 0 = omega arith in let i : op % 16 ≡ op % 8 % 8 = omega arith in rw (e, i))
-      (λ l. let e : op / 8 % 8 ≡ 1 = omega arith in let i : op % 16 ≡ 8 + op % 8 % 8 = omega arith in rw (e, i))
+      (λ l. let e : op / 8 % 8 ≡ 1 = omega arith in let i : op % 16 ≡ 8 + op % 8 % 8 = omega arith in rw (e, i, part-cut))
 
   pub loaded : (a next v : ℕ) (w : Write) → located g m pc (operand (op / 8 % 8) (op % 8)) z ≡ inMemory a next w → load m a z ≡ Value v
       → readAs v next w ≡ source g m pc op z

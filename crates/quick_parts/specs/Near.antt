@@ -13,7 +13,7 @@ use Rattle.manual.specs.Word.{plus}
 use Rattle.manual.specs.Registers.{noWrite}
 use Rattle.manual.specs.Memory.{Memory, load}
 use Rattle.manual.specs.Address.{extension, locate, moved, source}
-use Rattle.manual.specs.Change.{put, store}
+use Rattle.manual.specs.Change.{done, put, store}
 use Rattle.manual.specs.declared.Change.{Change}
 use Rattle.quick_parts.specs.declared.Spot.{Spot}
 use Rattle.quick_parts.specs.declared.Spot.the-variants.{At, NotNear}
@@ -56,10 +56,11 @@ read r s v next w q h = sym (rw q at h)
 
 -- what is put in memory is stored: the operand's move comes second after another operand's, or first
 module _ (z : Size) (g : List ℕ) (m : Memory) (pc : ℕ) (o : Operand) (codes v a next : ℕ) (w : Write) (h : located g m pc o z ≡ inMemory a next w) where
-  pub put-second : (one : Write) → put g (plus pc (extension o z)) codes one (moved g o z) (locate g m pc o z) z v ≡ store next codes one w a z v
-  unfolding put
-  put-second one = ap (λ (l : Located). put g (l .next) codes one (l .step) (l .place) z v) h
+  pub put-second : (first : Write)
+      → put g z v (locate g m pc o z) (done (plus pc (extension o z)) codes first (moved g o z)) ≡ store next codes first w a z v
+  unfolding put done
+  put-second first = ap (λ (l : Located). put g z v (l .place) (done (l .next) codes first (l .step))) h
 
-  pub put-first : put g (plus pc (extension o z)) codes (moved g o z) noWrite (locate g m pc o z) z v ≡ store next codes w noWrite a z v
-  unfolding put
-  put-first = ap (λ (l : Located). put g (l .next) codes (l .step) noWrite (l .place) z v) h
+  pub put-first : put g z v (locate g m pc o z) (done (plus pc (extension o z)) codes (moved g o z) noWrite) ≡ store next codes w noWrite a z v
+  unfolding put done
+  put-first = ap (λ (l : Located). put g z v (l .place) (done (l .next) codes (l .step) noWrite)) h

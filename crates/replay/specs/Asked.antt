@@ -8,8 +8,7 @@ use lib.ListN.{getD, length, take, drop}
 use Rattle.manual.specs.declared.Level.the-variants.{Kept, To}
 use Rattle.manual.specs.Memory.{Storage, valueAt}
 use Rattle.manual.specs.Lent.{Lent, lent}
-use Rattle.harness.specs.Calls.{Called, called, exceptionOn, interruptOn, rteOn}
-use Rattle.harness.specs.StepCalls.{stepOn, runOn}
+use Rattle.instructions.specs.HostCalls.{Called, called, exceptionOn, interruptOn, rteOn, stepOn, runOn}
 
 unfoldable pub asked : List ℕ → List ℕ → Storage → Called
 asked h b m =

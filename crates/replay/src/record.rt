@@ -14,7 +14,7 @@ ghost use Prim.Native.Nat.{_≤_, min};
 ghost use lib.Dec.{eqb};
 ghost use lib.ListN.{length};
 ghost use Rattle.manual.specs.Memory.{valueAt};
-ghost use Rattle.harness.specs.Calls.{called};
+ghost use Rattle.instructions.specs.HostCalls.{called};
 ghost use Rattle.replay.specs.Asked.{asked, answered};
 
 // Where the next record starts, and whether this one's answer is the expected one.

@@ -91,7 +91,13 @@ pub fn handler_sr(level: Level, sr: u16) -> u16
     ensures { λ r. ⌜ r ≡ handlerSrOf level sr ⌝ }
 {
     match level {
-        Level::Kept => 0x2000 + sr / 0x1000 % 2 * 0x1000 + sr % 0x1000,
-        Level::To(l) => 0x2000 + sr / 0x1000 % 2 * 0x1000 + (l % 8) as u16 * 0x100 + sr % 0x100,
+        Level::Kept => sr / 0x4000 % 2 * 0x4000 + 0x2000 + sr % 0x2000,
+        Level::To(l) => {
+            sr / 0x4000 % 2 * 0x4000
+                + 0x2000
+                + sr / 0x800 % 4 * 0x800
+                + (l % 8) as u16 * 0x100
+                + sr % 0x100
+        }
     }
 }

@@ -41,6 +41,11 @@ module _ (n v : ℕ) where
   pub bit-parts : v / 2 ^ suc n * 2 ^ suc n + (bit (bitOf n v) * 2 ^ n + v % 2 ^ n) ≡ v
   bit-parts = rw (bit-number n v, ← mod-pow-add v 1 n, one-add n) (split v (suc n))
 
+  -- the setter leaves what stands above the bit and below it
+  pub with-parts : (b : Bool) → withBit n b v ≡ v / 2 ^ suc n * 2 ^ suc n + (bit b * 2 ^ n + v % 2 ^ n)
+  unfolding withBit
+  with-parts b = omega (arith, bit-parts)
+
   pub bit-inside : bit (bitOf n v) * 2 ^ n ≤ v
   bit-inside = omega (arith, bit-parts)
 

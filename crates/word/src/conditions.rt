@@ -3,11 +3,12 @@ use super::flags::both;
 use super::flags::either;
 use super::flags::same;
 ghost use mathlib.Core.Path.{_≡_};
+ghost use Prim.Native.Nat.{_%_};
 ghost use Rattle.manual.specs.Conditions.{condition as conditionOf};
 
 // Whether condition n of Bcc and Scc holds in a status register.
 pub fn condition(number: u32, sr: u16) -> bool
-    ensures { λ r. ⌜ r ≡ conditionOf number sr ⌝ }
+    ensures { λ r. ⌜ r ≡ conditionOf (number % 16) sr ⌝ }
 {
     let n = sr / 8 % 2 == 1;
     let z = sr / 4 % 2 == 1;

@@ -1,6 +1,8 @@
 // Numbers of 8, 16 and 32 bits.
 use manual::Size;
 ghost use mathlib.Core.Path.{_≡_};
+ghost use Prim.Native.Nat.{_%_};
+ghost use Rattle.manual.specs.Fields.{byteOrWord};
 ghost use Rattle.manual.specs.Word.{bytes as bytesOf, half as halfOf, numbers as numbersOf, sizeOf, cut as cutOf, merged as mergedOf, plus as plusOf, minus as minusOf, signExtended};
 
 // The bytes of a size.
@@ -36,12 +38,23 @@ pub(crate) fn numbers(z: Size) -> u64
 
 // The size that two bits name.
 pub fn size_of(n: u32) -> Size
-    ensures { λ r. ⌜ r ≡ sizeOf n ⌝ }
+    ensures { λ r. ⌜ r ≡ sizeOf (n % 4) ⌝ }
 {
     match n % 4 {
         0 => Size::Byte,
         1 => Size::Word,
         _ => Size::Long,
+    }
+}
+
+// The size of MVS and MVZ.
+pub fn byte_or_word(op: u32) -> Size
+    ensures { λ r. ⌜ r ≡ byteOrWord op ⌝ }
+{
+    if op / 64 % 2 == 1 {
+        Size::Word
+    } else {
+        Size::Byte
     }
 }
 

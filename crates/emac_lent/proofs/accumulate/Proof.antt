@@ -35,8 +35,8 @@ use denote.Triple.Table.{entered, cited}
 use denote.Triple.Walked.{says, Stays, stay-ref, stay-none, walkOf, goes-none, goes-ref, ends-at, walked, walk-meets}
 use denote.Exit.{yes}
 use Rattle.manual.specs.declared.Emac.{Emac}
-use Rattle.emac_lent.specs.declared.unit.EmacAnswer.{EmacAnswer}
-use Rattle.emac_lent.specs.UnitCalls.{accumulateCall}
+use Rattle.manual.specs.declared.EmacAnswer.{EmacAnswer}
+use Rattle.manual.specs.UnitCalls.{accumulateCall}
 use Rattle.manual.proofs.Emac as T
 use Rattle.manual.proofs.Reply as R
 use Rattle.emac_lent.proofs.Lent.{mach, said, number, flag, replied, changed}

@@ -19,7 +19,7 @@ returns-2 c =
     let d = r .before .before .before in
     let o = d .before .before in
     ran-is _ _ (o .opened .result) (d .is-done .result) (o .opened .ensures) (d .is-done .ensures) _ (r .run .result) _ _ (n .number-of2 .result)
-    (not-false (d .is-done .result) (r .before .before .if1 .left)) (r .run .ensures) (t .settle .ensures) (n .number-of2 .ensures .0)
+    (not-false (d .is-done .result) (r .before .before .if1 .left)) (r .run .ensures) (t .store-after .ensures) (n .number-of2 .ensures .0)
 
 pub run-spec : {M : Type 1} → statement M
 run-spec =

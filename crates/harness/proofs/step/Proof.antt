@@ -6,7 +6,7 @@ use Rattle.manual.specs.declared.Cpu.{Cpu}
 use Rattle.manual.specs.Lent.{lent}
 use Rattle.instructions.specs.Step.{step}
 use Rattle.harness.specs.CallLaws.{refused-is, made-is}
-use Rattle.harness.specs.StepCalls.{stepOn}
+use Rattle.instructions.specs.HostCalls.{stepOn}
 use Rattle.harness.proofs.step.Statement.{statement}
 use Rattle.harness.proofs.step.Tie as tie
 
@@ -28,7 +28,7 @@ returns-2 c =
     let o = d .before .before in
     let a = o .before .before .before .before .before .args in
     made-is _ _ (o .opened .result) (d .is-done .result) (o .opened .ensures) (d .is-done .ensures) _ (λ (x : Cpu). step x (lent (now (a .mem)))) (s .step .result) _ (e .is-done2 .result) _ _
-    (not-false (d .is-done .result) (s .before .before .if1 .left)) (s .step .ensures) (e .is-done2 .ensures) (t .settle .ensures) (rw (n .number-of2 .ensures .0))
+    (not-false (d .is-done .result) (s .before .before .if1 .left)) (s .step .ensures) (e .is-done2 .ensures) (t .store-after .ensures) (rw (n .number-of2 .ensures .0))
 
 pub step-spec : {M : Type 1} → statement M
 step-spec =

@@ -1,7 +1,7 @@
 use Rattle.instructions.specs.Step.{ofRow}
 use Rattle.instructions.specs.Rows.{placeIn}
 use Rattle.instructions.specs.Line0.{line0}
-use Rattle.instructions.specs.Moves.{line2}
+use Rattle.instructions.specs.Moves.{moves}
 use Rattle.instructions.specs.Line4.{line4}
 use Rattle.instructions.specs.Line5.{line5}
 use Rattle.instructions.specs.Line6.{line6}
@@ -43,11 +43,11 @@ unfolding ofRow line0 placeIn
 returns-7 c = λ other e. rw (c .before .before .match .keys7) (c .bit-by-register .ensures _)
 
 returns-8 : tie.Need-returns-8
-unfolding ofRow line2 placeIn
+unfolding ofRow moves placeIn
 returns-8 c = λ other e. rw (c .before .before .before .match .keys8) (c .movea .ensures)
 
 returns-9 : tie.Need-returns-9
-unfolding ofRow line2 placeIn
+unfolding ofRow moves placeIn
 returns-9 c = λ other e. rw (c .before .before .before .before .before .match .keys9) (c .before .before .move-long .ensures)
 
 returns-10 : tie.Need-returns-10

@@ -1,4 +1,4 @@
-use Rattle.manual.specs.Address.{destination as destinationOf}
+use Rattle.manual.specs.Address.{destinationOf}
 use borrow.Author.Needs.{needs}
 use Rattle.address.proofs.operands.destination.Statement.{statement}
 use Rattle.address.proofs.operands.destination.Tie as tie

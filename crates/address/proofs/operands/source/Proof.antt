@@ -5,6 +5,7 @@ use Rattle.manual.specs.Address.{fetch as fetchOf}
 use Rattle.manual.specs.Address.{locate as locateOf}
 use Rattle.manual.specs.Address.{extension as extensionOf}
 use Rattle.manual.specs.Address.{moved as movedOf}
+use Rattle.address.specs.PartLaws.{part-cut}
 use borrow.Author.Needs.{needs}
 use Rattle.address.proofs.operands.source.Statement.{statement}
 use Rattle.address.proofs.operands.source.Tie as tie
@@ -19,7 +20,7 @@ returns-2 : tie.Need-returns-2
 unfolding sourceOf operandOf valueOf fetchOf locateOf extensionOf movedOf
 returns-2 c =
     let c1 = c .before in let c2 = c1 .before in let c3 = c2 .before in let c4 = c3 .before in
-    rw (c4 .match .keys2, ← c3 .address .ensures, ← c2 .cut2 .ensures, ← c1 .no-write2 .ensures, ← c .plus2 .ensures)
+    rw (c4 .match .keys2, part-cut, ← c3 .address .ensures, ← c2 .cut2 .ensures, ← c1 .no-write2 .ensures, ← c .plus2 .ensures)
 
 returns-3 : tie.Need-returns-3
 unfolding sourceOf operandOf valueOf fetchOf locateOf extensionOf movedOf

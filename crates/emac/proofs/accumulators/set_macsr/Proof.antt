@@ -7,7 +7,7 @@ returns : tie.Need-returns
 returns c =
     let x = c .before .before .before .before .before .before .before .args in
     set-macsr-is (x .e) (x .v) _ _ _ _ _ _ (search needs) (c .before .before .before .before .before .before .fractional .ensures)
-    (c .before .before .before .before .before .fractional2 .ensures) (c .before .before .before .turned .ensures) (c .before .before .turned2 .ensures) (c .before .turned3 .ensures) (c .turned4 .ensures)
+    (c .before .before .before .before .before .fractional2 .ensures) (c .before .before .before .reinterpreted .ensures) (c .before .before .reinterpreted2 .ensures) (c .before .reinterpreted3 .ensures) (c .reinterpreted4 .ensures)
 
 pub set-macsr-spec : {M : Type 1} → statement M
 set-macsr-spec =

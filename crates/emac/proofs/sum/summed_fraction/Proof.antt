@@ -11,7 +11,7 @@ use Rattle.emac.proofs.sum.summed_fraction.Reads as reads
 use Rattle.emac.proofs.sum.summed_fraction.Lts as lts
 use Rattle.emac.proofs.flags.mode_of.Reads as mode-of-reads
 use Rattle.emac.proofs.product.scaled_product.Reads as scaled-product-reads
-use Rattle.emac.proofs.sum.settled.Reads as settled-reads
+use Rattle.emac.proofs.sum.with_sum.Reads as with-sum-reads
 use Rattle.emac.proofs.sum.sum.Reads as sum-reads
 use Rattle.emac.proofs.sum.summed.Reads as summed-reads
 use Rattle.emac.proofs.sum.value_of.Reads as value-of-reads
@@ -57,8 +57,8 @@ sum-requires : tie.Need-sum-requires
 sum-requires c κs = search needs
 
 -- src/lib.rt:129:5
-settled-requires : tie.Need-settled-requires
-settled-requires c κs = search needs
+with-sum-requires : tie.Need-with-sum-requires
+with-sum-requires c κs = search needs
 
 -- src/lib.rt:108:1
 returns-4 : tie.Need-returns-4
@@ -68,7 +68,7 @@ returns-4 c =
     let e = mode-is (k .result) (not-false (k .result .fi) (c6 .if1 .left)) (c5 .if2 .left) (c4 .if3 .left) ∙ k .ensures in
     sums (x .m) (x .a) (x .i) (x .scale) (x .sub) (x .x) (x .y) f (pav (x .m) (x .i)) e refl refl
     (c3 .scaled-product .result) _ _ _ (product.taken f (x .scale) (x .x) (x .y) (c3 .scaled-product .result) (c3 .scaled-product .ensures))
-    (taken f (x .a) _ (c2 .value-of .ensures)) (c1 .sum .ensures) (c .settled .ensures)
+    (taken f (x .a) _ (c2 .value-of .ensures)) (c1 .sum .ensures) (c .with-sum .ensures)
 
 pub summed-fraction-spec : {M : Type 1} → statement M
 summed-fraction-spec =
@@ -84,5 +84,5 @@ summed-fraction-spec =
     scaled-product-requires
     value-of-requires
     sum-requires
-    settled-requires
+    with-sum-requires
     returns-4)

@@ -1,5 +1,5 @@
 use borrow.Author.Tests.{not-true, not-false, lt-ltb, le-ltb}
-use Rattle.emac_lent.specs.UnitCalls.{accumulateCall}
+use Rattle.manual.specs.UnitCalls.{accumulateCall}
 use borrow.Author.Needs.{needs}
 use Rattle.emac_lent.proofs.unit.accumulate.Statement.{statement}
 use Rattle.emac_lent.proofs.unit.accumulate.Tie as tie

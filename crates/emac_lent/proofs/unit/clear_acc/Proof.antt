@@ -1,5 +1,5 @@
 use borrow.Author.Tests.{not-true, not-false, lt-ltb, le-ltb}
-use Rattle.emac_lent.specs.UnitCalls.{clearAccCall}
+use Rattle.manual.specs.UnitCalls.{clearAccCall}
 use borrow.Author.Needs.{needs}
 use Rattle.emac_lent.proofs.unit.clear_acc.Statement.{statement}
 use Rattle.emac_lent.proofs.unit.clear_acc.Tie as tie

@@ -1,5 +1,5 @@
 use borrow.Author.Tests.{not-true, not-false}
-use Rattle.emac_lent.specs.UnitCalls.{setMacsrCall}
+use Rattle.manual.specs.UnitCalls.{setMacsrCall}
 use borrow.Author.Needs.{needs}
 use Rattle.emac_lent.proofs.unit.set_macsr.Statement.{statement}
 use Rattle.emac_lent.proofs.unit.set_macsr.Tie as tie

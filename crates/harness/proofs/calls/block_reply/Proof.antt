@@ -1,5 +1,5 @@
 use borrow.Author.Tests.{eq-eqb, ne-eqb}
-use Rattle.harness.specs.Calls.{blockReply}
+use Rattle.instructions.specs.HostCalls.{blockReply}
 use borrow.Author.Needs.{needs}
 use Rattle.harness.proofs.calls.block_reply.Statement.{statement}
 use Rattle.harness.proofs.calls.block_reply.Tie as tie

@@ -1,6 +1,6 @@
 -- `harness::calls::exception` meets its contract. Assumes nothing.
 use borrow.Author.Needs.{needs}
-use Rattle.harness.specs.Calls.{exceptionOn}
+use Rattle.instructions.specs.HostCalls.{exceptionOn}
 use Rattle.harness.proofs.calls.exception.Statement.{statement}
 use Rattle.harness.proofs.calls.exception.Tie as tie
 

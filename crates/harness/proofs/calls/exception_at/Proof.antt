@@ -1,6 +1,6 @@
 -- `harness::calls::exception_at` meets its contract. Assumes nothing.
 use borrow.Author.Needs.{needs}
-use Rattle.harness.specs.Calls.{exceptionOn}
+use Rattle.instructions.specs.HostCalls.{exceptionOn}
 use Rattle.harness.proofs.calls.exception_at.Statement.{statement}
 use Rattle.harness.proofs.calls.exception_at.Tie as tie
 

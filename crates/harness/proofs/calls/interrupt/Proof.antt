@@ -1,6 +1,6 @@
 -- `harness::calls::interrupt` meets its contract. Assumes nothing.
 use borrow.Author.Needs.{needs}
-use Rattle.harness.specs.Calls.{interruptOn}
+use Rattle.instructions.specs.HostCalls.{interruptOn}
 use Rattle.harness.proofs.calls.interrupt.Statement.{statement}
 use Rattle.harness.proofs.calls.interrupt.Tie as tie
 

@@ -25,7 +25,7 @@ returns-2 c =
     let o = d .before .before in
     let a = o .before .before .before .before .before .args in
     made-is _ _ (o .opened .result) (d .is-done .result) (o .opened .ensures) (d .is-done .ensures) 0 (λ (x : Cpu). made (a .call) x (lent (now (a .mem)))) (s .made .result) _ (e .is-done2 .result) _ _
-    (not-false (d .is-done .result) (s .before .before .if1 .left)) (s .made .ensures) (e .is-done2 .ensures) (t .settle .ensures) (omega (arith, c .number-of2 .ensures .0))
+    (not-false (d .is-done .result) (s .before .before .if1 .left)) (s .made .ensures) (e .is-done2 .ensures) (t .store-after .ensures) (omega (arith, c .number-of2 .ensures .0))
 
 pub on-block-spec : {M : Type 1} → statement M
 on-block-spec =

@@ -1,6 +1,6 @@
 -- `harness::calls::rte` meets its contract. Assumes nothing.
 use borrow.Author.Needs.{needs}
-use Rattle.harness.specs.Calls.{rteOn}
+use Rattle.instructions.specs.HostCalls.{rteOn}
 use Rattle.harness.proofs.calls.rte.Statement.{statement}
 use Rattle.harness.proofs.calls.rte.Tie as tie
 

@@ -7,18 +7,19 @@ use Rattle.instructions.specs.Line4.{line4 as line4Of}
 use Rattle.line4.proofs.line4.instruction.Statement.{statement}
 use Rattle.line4.proofs.line4.instruction.Tie as tie
 
-returns-40 : tie.Need-returns-40
+returns-41 : tie.Need-returns-41
 unfolding line4Of placeIn
-returns-40 c =
+returns-41 c =
     let row : ℕ = c .before .before .before .args .row in
-    let past : 39 ≤ placeIn (firstRow 4) row = other-row (firstRow 4) 39 rowCount row (omega arith) (c .before .match .rest) in
-    rw List·getD-eq-default (c .illegal3 .ensures)
+    let past : 40 ≤ placeIn (firstRow 4) row = other-row (firstRow 4) 40 rowCount row (omega arith) (c .before .match .rest) in
+    rw List·getD-eq-default (c .illegal4 .ensures)
 
 pub instruction-spec : {M : Type 1} → statement M
 unfolding line4Of placeIn
 instruction-spec =
     tie.close
     (tie.spec
+    (λ c κs. tt)
     (λ c κs. tt)
     (λ c κs. tt)
     (λ c κs. tt)
@@ -98,4 +99,5 @@ instruction-spec =
     (λ c. rw (c .before .match .keys37, ← c .clr .ensures))
     (λ c. rw (c .before .match .keys38, ← c .tst .ensures))
     (λ c. rw (c .before .match .keys39, ← c .lea .ensures))
-    returns-40)
+    (λ c. rw (c .before .match .keys40, ← c .illegal3 .ensures))
+    returns-41)

@@ -7,18 +7,19 @@ use Rattle.instructions.specs.LineA.{lineA as lineAOf}
 use Rattle.linea.proofs.linea.instruction.Statement.{statement}
 use Rattle.linea.proofs.linea.instruction.Tie as tie
 
-returns-13 : tie.Need-returns-13
+returns-14 : tie.Need-returns-14
 unfolding lineAOf placeIn
-returns-13 c =
+returns-14 c =
     let row : ℕ = c .before .before .before .args .row in
-    let past : 12 ≤ placeIn (firstRow 0xA) row = other-row (firstRow 0xA) 12 rowCount row (omega arith) (c .before .match .rest) in
-    rw List·getD-eq-default (c .unassigned .ensures)
+    let past : 13 ≤ placeIn (firstRow 0xA) row = other-row (firstRow 0xA) 13 rowCount row (omega arith) (c .before .match .rest) in
+    rw List·getD-eq-default (c .illegal .ensures)
 
 pub instruction-spec : {M : Type 1} → statement M
 unfolding lineAOf placeIn
 instruction-spec =
     tie.close
     (tie.spec
+    (λ c κs. tt)
     (λ c κs. tt)
     (λ c κs. tt)
     (λ c κs. tt)
@@ -46,4 +47,5 @@ instruction-spec =
     (λ c. rw (c .before .match .keys10, ← c .move-to-emac4 .ensures))
     (λ c. rw (c .before .match .keys11, ← c .mov3q .ensures))
     (λ c. rw (c .before .match .keys12, ← c .mac .ensures))
-    returns-13)
+    (λ c. rw (c .before .match .keys13, ← c .unassigned .ensures))
+    returns-14)

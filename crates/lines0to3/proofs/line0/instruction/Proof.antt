@@ -8,18 +8,19 @@ use borrow.Author.Needs.{needs}
 use Rattle.lines0to3.proofs.line0.instruction.Statement.{statement}
 use Rattle.lines0to3.proofs.line0.instruction.Tie as tie
 
-returns-14 : tie.Need-returns-14
+returns-15 : tie.Need-returns-15
 unfolding line0Of placeIn
-returns-14 c =
+returns-15 c =
     let row : ℕ = c .before .before .before .args .row in
-    let past : 13 ≤ placeIn (firstRow 0) row = other-row (firstRow 0) 13 rowCount row (omega arith) (c .before .match .rest) in
-    rw List·getD-eq-default (c .illegal .ensures)
+    let past : 14 ≤ placeIn (firstRow 0) row = other-row (firstRow 0) 14 rowCount row (omega arith) (c .before .match .rest) in
+    rw List·getD-eq-default (c .illegal2 .ensures)
 
 pub instruction-spec : {M : Type 1} → statement M
 unfolding line0Of placeIn
 instruction-spec =
     tie.close
     (tie.spec
+    (λ c κs. search needs)
     (λ c κs. search needs)
     (λ c κs. search needs)
     (λ c κs. search needs)
@@ -47,4 +48,5 @@ instruction-spec =
     (λ c. rw (c .before .match .keys11, ← c .cmpi3 .ensures))
     (λ c. rw (c .before .match .keys12, ← c .bit-by-immediate .ensures))
     (λ c. rw (c .before .match .keys13, ← c .bit-by-register .ensures))
-    returns-14)
+    (λ c. rw (c .before .match .keys14, ← c .illegal .ensures))
+    returns-15)

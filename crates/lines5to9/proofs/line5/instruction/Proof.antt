@@ -8,18 +8,19 @@ use borrow.Author.Needs.{needs}
 use Rattle.lines5to9.proofs.line5.instruction.Statement.{statement}
 use Rattle.lines5to9.proofs.line5.instruction.Tie as tie
 
-returns-9 : tie.Need-returns-9
+returns-10 : tie.Need-returns-10
 unfolding line5Of placeIn
-returns-9 c =
+returns-10 c =
     let row : ℕ = c .before .before .before .args .row in
-    let past : 8 ≤ placeIn (firstRow 5) row = other-row (firstRow 5) 8 rowCount row (omega arith) (c .before .match .rest) in
-    rw List·getD-eq-default (c .addq .ensures)
+    let past : 9 ≤ placeIn (firstRow 5) row = other-row (firstRow 5) 9 rowCount row (omega arith) (c .before .match .rest) in
+    rw List·getD-eq-default (c .illegal2 .ensures)
 
 pub instruction-spec : {M : Type 1} → statement M
 unfolding line5Of placeIn
 instruction-spec =
     tie.close
     (tie.spec
+    (λ c κs. search needs)
     (λ c κs. search needs)
     (λ c κs. search needs)
     (λ c κs. search needs)
@@ -37,4 +38,5 @@ instruction-spec =
     (λ c. rw (c .before .match .keys6, ← c .addq-address3 .ensures))
     (λ c. rw (c .before .match .keys7, ← c .scc .ensures))
     (λ c. rw (c .before .match .keys8, ← c .illegal .ensures))
-    returns-9)
+    (λ c. rw (c .before .match .keys9, ← c .addq .ensures))
+    returns-10)

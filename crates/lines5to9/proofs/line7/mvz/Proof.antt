@@ -7,13 +7,13 @@ returns : tie.Need-returns
 unfolding mvzOf
 returns c =
     let c1 = c .before in let c2 = c1 .before in let c3 = c2 .before in let c4 = c3 .before in let c5 = c4 .before in let c6 = c5 .before in
-    rw (← c6 .plus .ensures, ← c5 .size-of .ensures, ← c4 .source .ensures, c2 .got2 .given .1, ← c .refused .ensures)
+    rw (← c6 .plus .ensures, ← c5 .byte-or-word .ensures, ← c4 .source .ensures, c2 .got2 .given .1, ← c .refused .ensures)
 
 returns-2 : tie.Need-returns-2
 unfolding mvzOf
 returns-2 c =
     let c1 = c .before in let c2 = c1 .before in let c3 = c2 .before in let c4 = c3 .before in let c5 = c4 .before in let c6 = c5 .before in let c7 = c6 .before in let c8 = c7 .before in let c9 = c8 .before in
-    rw (← c9 .plus .ensures, ← c8 .size-of .ensures, ← c7 .source .ensures, c5 .got .given .1, ← c2 .move-codes .ensures, ← c1 .write-data .ensures, ← c .done .ensures)
+    rw (← c9 .plus .ensures, ← c8 .byte-or-word .ensures, ← c7 .source .ensures, c5 .got .given .1, ← c2 .move-codes .ensures, ← c1 .write-data .ensures, ← c .done .ensures)
 
 pub mvz-spec : {M : Type 1} → statement M
 mvz-spec =

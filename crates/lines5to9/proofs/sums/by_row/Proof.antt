@@ -5,17 +5,18 @@ use Rattle.instructions.specs.Line9D.{sums as sumsOf}
 use Rattle.lines5to9.proofs.sums.by_row.Statement.{statement}
 use Rattle.lines5to9.proofs.sums.by_row.Tie as tie
 
-returns-10 : tie.Need-returns-10
+returns-11 : tie.Need-returns-11
 unfolding sumsOf
-returns-10 c =
-    let p : 9 ≤ c .before .before .place-in .result = past 9 _ (c .before .match .rest) in
-    rw (← c .before .before .place-in .ensures, List·getD-eq-default) (c .add-to-memory .ensures)
+returns-11 c =
+    let p : 10 ≤ c .before .before .place-in .result = past 10 _ (c .before .match .rest) in
+    rw (← c .before .before .place-in .ensures, List·getD-eq-default) (c .illegal4 .ensures)
 
 pub by-row-spec : {M : Type 1} → statement M
 unfolding sumsOf
 by-row-spec =
     tie.close
     (tie.spec
+    (λ c κs. tt)
     (λ c κs. tt)
     (λ c κs. tt)
     (λ c κs. tt)
@@ -36,4 +37,5 @@ by-row-spec =
     (λ c. rw (← c .before .before .place-in .ensures, c .before .match .keys7, ← c .adda .ensures))
     (λ c. rw (← c .before .before .place-in .ensures, c .before .match .keys8, ← c .adda2 .ensures))
     (λ c. rw (← c .before .before .place-in .ensures, c .before .match .keys9, ← c .add-to-data .ensures))
-    returns-10)
+    (λ c. rw (← c .before .before .place-in .ensures, c .before .match .keys10, ← c .add-to-memory .ensures))
+    returns-11)

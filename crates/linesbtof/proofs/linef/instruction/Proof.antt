@@ -21,10 +21,14 @@ returns-3 c = rw (c .before .match .keys3, ← c .wddata .ensures)
 
 returns-4 : tie.Need-returns-4
 unfolding lineFOf placeIn
-returns-4 c =
+returns-4 c = rw (c .before .match .keys4, ← c .enter .ensures)
+
+returns-5 : tie.Need-returns-5
+unfolding lineFOf placeIn
+returns-5 c =
     let row : ℕ = c .before .before .before .args .row in
-    let past : 3 ≤ placeIn (firstRow 0xF) row = other-row (firstRow 0xF) 3 rowCount row (omega arith) (c .before .match .rest) in
-    rw List·getD-eq-default (c .enter .ensures)
+    let past : 4 ≤ placeIn (firstRow 0xF) row = other-row (firstRow 0xF) 4 rowCount row (omega arith) (c .before .match .rest) in
+    rw List·getD-eq-default (c .illegal .ensures)
 
 pub instruction-spec : {M : Type 1} → statement M
 instruction-spec =
@@ -34,7 +38,9 @@ instruction-spec =
     (λ c κs. tt)
     (λ c κs. tt)
     (λ c κs. tt)
+    (λ c κs. tt)
     returns
     returns-2
     returns-3
-    returns-4)
+    returns-4
+    returns-5)

@@ -99,7 +99,7 @@ returns-16 : tie.Need-returns-16
 unfolding performOf
 returns-16 c =
     let c1 = c .before in let c2 = c1 .before in let c3 = c2 .before in let c4 = c3 .before in let c5 = c4 .before in let c6 = c5 .before in let c7 = c6 .before in
-    rw (← c7 .applied .ensures, c4 .action10 .given .1, ← c2 .move-to .ensures, ← c1 .with-emac2 .ensures, ← c .completed10 .ensures)
+    rw (← c7 .applied .ensures, c4 .action10 .given .1, ← c2 .set-acc .ensures, ← c1 .with-emac2 .ensures, ← c .completed10 .ensures)
 
 returns-17 : tie.Need-returns-17
 unfolding performOf

@@ -7,7 +7,7 @@ returns : tie.Need-returns
 unfolding mvsOf
 returns c = λ at m h.
     let c1 = c .before in let c2 = c1 .before in let c3 = c2 .before in let c4 = c3 .before in let c5 = c4 .before in let c6 = c5 .before in
-    rw (h, ← c6 .size-of .ensures, ← c5 .sign-extended .ensures, ← c4 .long-move-codes .ensures, ← c2 .write-data .ensures, ← c1 .done .ensures) (c .changed .ensures _)
+    rw (h, ← c6 .byte-or-word .ensures, ← c5 .sign-extended .ensures, ← c4 .long-move-codes .ensures, ← c2 .write-data .ensures, ← c1 .done .ensures) (c .changed .ensures _)
 
 pub mvs-spec : {M : Type 1} → statement M
 mvs-spec =

@@ -1,7 +1,7 @@
 use Rattle.quick_parts.specs.Near.{read as readOf}
 use Rattle.instructions.specs.Step.{ofRow}
 use Rattle.instructions.specs.Rows.{rowOf, placeIn}
-use Rattle.instructions.specs.Moves.{line1, line3}
+use Rattle.instructions.specs.Moves.{moves}
 use Rattle.instructions.specs.Line4.{line4}
 use Rattle.instructions.specs.Line7.{line7}
 use Rattle.instructions.specs.LineC.{lineC}
@@ -11,7 +11,7 @@ use Rattle.quick_bodies.proofs.parts.part.Statement.{statement}
 use Rattle.quick_bodies.proofs.parts.part.Tie as tie
 
 returns-2 : tie.Need-returns-2
-unfolding ofRow line1 placeIn partOf rowOf
+unfolding ofRow moves placeIn partOf rowOf
 returns-2 c = λ other e.
     let c1 = c .before in let c2 = c1 .before in let c3 = c2 .before in let c4 = c3 .before in let c5 = c4 .before in let c6 = c5 .before in let c7 = c6 .before in let c8 = c7 .before in let c9 = c8 .before in let c10 = c9 .before in let c11 = c10 .before in let c12 = c11 .before in let c13 = c12 .before in
     let h = rw (c10 .plus .ensures) at (readOf _ _ _ _ _ (c7 .v .given .1) (c9 .read .ensures)) in
@@ -19,7 +19,7 @@ returns-2 c = λ other e.
     rw (c5 .match2 .keys1) k
 
 returns-3 : tie.Need-returns-3
-unfolding ofRow line3 placeIn partOf rowOf
+unfolding ofRow moves placeIn partOf rowOf
 returns-3 c = λ other e.
     let c1 = c .before in let c2 = c1 .before in let c3 = c2 .before in let c4 = c3 .before in let c5 = c4 .before in let c6 = c5 .before in let c7 = c6 .before in let c8 = c7 .before in let c9 = c8 .before in let c10 = c9 .before in let c11 = c10 .before in let c12 = c11 .before in let c13 = c12 .before in
     let h = rw (c10 .plus .ensures) at (readOf _ _ _ _ _ (c7 .v .given .1) (c9 .read .ensures)) in
@@ -27,7 +27,7 @@ returns-3 c = λ other e.
     rw (c5 .match2 .keys2) k
 
 returns-4 : tie.Need-returns-4
-unfolding ofRow line3 placeIn partOf rowOf
+unfolding ofRow moves placeIn partOf rowOf
 returns-4 c = λ other e.
     let c1 = c .before in let c2 = c1 .before in let c3 = c2 .before in let c4 = c3 .before in let c5 = c4 .before in let c6 = c5 .before in let c7 = c6 .before in let c8 = c7 .before in let c9 = c8 .before in let c10 = c9 .before in
     let h = rw (c7 .plus .ensures, c10 .part-of .ensures, c2 .match2 .keys3) at (readOf _ _ _ _ _ (c4 .v .given .1) (c6 .read .ensures)) in

@@ -15,11 +15,11 @@ returns-2 c = rw (c .before .match .keys2, ← c .size-of .ensures)
 
 returns-3 : tie.Need-returns-3
 unfolding partOf rowOf
-returns-3 c = rw (c .before .match .keys3, ← c .size-of2 .ensures)
+returns-3 c = rw (c .before .match .keys3, ← c .byte-or-word .ensures)
 
 returns-4 : tie.Need-returns-4
 unfolding partOf rowOf
-returns-4 c = rw (c .before .match .keys4, ← c .size-of3 .ensures)
+returns-4 c = rw (c .before .match .keys4, ← c .byte-or-word2 .ensures)
 
 returns-5 : tie.Need-returns-5
 unfolding partOf rowOf

@@ -1,4 +1,4 @@
--- `emac_lent::move_to` meets its contract: a walk of its MIR, by hand, by `Lent.antt`. All that it knows of the function by value is that it meets its contract.
+-- `emac_lent::set_acc` meets its contract: a walk of its MIR, by hand, by `Lent.antt`. All that it knows of the function by value is that it meets its contract.
 -- Assumes nothing.
 use mathlib.Core.Path.{_≡_, refl}
 use Prim.Native.Nat.{ℕ, _<_, _^_}
@@ -34,19 +34,19 @@ use denote.Triple.Table.{entered, cited}
 use denote.Triple.Walked.{says, Stays, stay-ref, stay-none, walkOf, goes-none, goes-ref, ends-at, walked, walk-meets}
 use denote.Exit.{yes}
 use Rattle.manual.specs.declared.Emac.{Emac}
-use Rattle.emac_lent.specs.declared.unit.EmacAnswer.{EmacAnswer}
-use Rattle.emac_lent.specs.UnitCalls.{moveToCall}
+use Rattle.manual.specs.declared.EmacAnswer.{EmacAnswer}
+use Rattle.manual.specs.UnitCalls.{setAccCall}
 use Rattle.manual.proofs.Emac as T
 use Rattle.manual.proofs.Reply as R
 use Rattle.emac_lent.proofs.Lent.{mach, said, number, replied, changed}
-use Rattle.emac_lent.proofs.unit.move_to as g
-use Rattle.emac_lent.proofs.unit.move_to.Symbol as g-def
-use Rattle.emac_lent.proofs.unit.move_to.Symbol.{name as #g}
-use Rattle.emac_lent.proofs.unit.move_to.Met as g-thm
-use Rattle.emac_lent.proofs.move_to.Key.{name as #f}
-use Rattle.emac_lent.proofs.move_to as f
-use Rattle.emac_lent.proofs.move_to.Statement as stated
-use Rattle.emac_lent.proofs.move_to.Code as code
+use Rattle.emac_lent.proofs.unit.set_acc as g
+use Rattle.emac_lent.proofs.unit.set_acc.Symbol as g-def
+use Rattle.emac_lent.proofs.unit.set_acc.Symbol.{name as #g}
+use Rattle.emac_lent.proofs.unit.set_acc.Met as g-thm
+use Rattle.emac_lent.proofs.set_acc.Key.{name as #f}
+use Rattle.emac_lent.proofs.set_acc as f
+use Rattle.emac_lent.proofs.set_acc.Statement as stated
+use Rattle.emac_lent.proofs.set_acc.Code as code
 
 abbrev stayed : Stays (f.ended .signature .params) (f.ended .kept)
 stayed = (stay-ref (0 ∷ []) tt (plain (λ _. T.the-row)), (stay-none (λ _. u32) yes, (stay-none (λ _. u32) yes, tt)))
@@ -66,7 +66,7 @@ module _ {M : Type 1} (𝓤 : URA M) (H : Heap 𝓤) (A : Atoms 𝓤) (W : Given
   abbrev Post : Val → SProp 𝓤
   Post = walkOf 𝓤 H A f.ended stayed (f.clauses 𝓤 H A at-mem run) .post (((κ, tt), (q, tt), tt, x, at), tt)
 
-  exits : (r : EmacAnswer) → r ≡ moveToCall h i w → Is R.the-row (r .reply) (said (r .reply) ∷ []) → ent 𝓤 (sep 𝓤 (A .obs γ (T.the-row .coded .code (r .emac))) (sep 𝓤 (A .bor κ (Body (mem T.the-row) b o γ)) (A .lft κ q))) (Post (said (r .reply)))
+  exits : (r : EmacAnswer) → r ≡ setAccCall h i w → Is R.the-row (r .reply) (said (r .reply) ∷ []) → ent 𝓤 (sep 𝓤 (A .obs γ (T.the-row .coded .code (r .emac))) (sep 𝓤 (A .bor κ (Body (mem T.the-row) b o γ)) (A .lft κ q))) (Post (said (r .reply)))
   exits r e is =
       qed W (‵ (fobs γ (T.the-row .coded .code (r .emac))) ∷ ‵ (fbor κ (Body (mem T.the-row) b o γ)) ∷ ‵ (flft κ q) ∷ []) ∵
       suffices ! _ (ends-at 𝓤 H A f.ended stayed (f.clauses 𝓤 H A at-mem run) W (((κ, tt), (q, tt), tt, x, at), tt) (said (r .reply)) (r .reply) (r .emac, (tt, (tt, tt))) (tt, (tt, (tt, tt)))) $ says ! e $ nothing ! $ move ! (3 ∷ 0 ∷ []) $ join ! $
@@ -83,8 +83,8 @@ module _ {M : Type 1} (𝓤 : URA M) (H : Heap 𝓤) (A : Atoms 𝓤) (W : Given
   abbrev ensures : EmacAnswer → SProp 𝓤
   ensures r = ensured 𝓤 H A g.ended (g.clauses 𝓤 H A at-mem run) tt (h, (i, (w, tt))) tt r
 
-  is : (r : EmacAnswer) → ent 𝓤 (ensures r) (fact 𝓤 (r ≡ moveToCall h i w))
-  is r = exE 𝓤 _ (λ ws. snd∗ 𝓤 (sem 𝓤 H A (lasts g.ended tt (h, (i, (w, tt))) ws)) (fact 𝓤 (r ≡ moveToCall h i w)))
+  is : (r : EmacAnswer) → ent 𝓤 (ensures r) (fact 𝓤 (r ≡ setAccCall h i w))
+  is r = exE 𝓤 _ (λ ws. snd∗ 𝓤 (sem 𝓤 H A (lasts g.ended tt (h, (i, (w, tt))) ws)) (fact 𝓤 (r ≡ setAccCall h i w)))
 
   module _ (C : Calls 𝓤 H) (Λ : Loops 𝓤 H) (fm : FmC 𝓤 H (W .laws) C) (known : Triple 𝓤 (C #g) (ByValue 𝓤 H A at-mem run)) where
     walk : ent 𝓤 (onEntry 𝓤 H A f.signature (κ, tt) (q, tt) x at) (WpFn 𝓤 H C Λ code.function (vptr b o ∷ vint w32 i ∷ vint w32 w ∷ []) Post)
@@ -95,7 +95,7 @@ module _ {M : Type 1} (𝓤 : URA M) (H : Heap 𝓤) (A : Atoms 𝓤) (W : Given
         alloc1 ! (λ l₀. alloc1 ! (λ l₁. alloc1 ! (λ l₂. alloc1 ! (λ l₃. alloc1 ! (λ l₄. alloc1 ! (λ l₅. alloc0 ! $ params1 ! $ pass1 ! (init ! 8 refl (tt, tt)) $ pass1 ! (init ! 6 refl (tt, record { fits = i-fits })) $ pass1 ! (init ! 4 refl (tt, record { fits = w-fits })) $ pass0 ! $
         -- [obs; the borrow; the token; room for the answer, the copy; the reference; room for _0; …]
         move ! (12 ∷ 13 ∷ 14 ∷ 0 ∷ 2 ∷ 8 ∷ 10 ∷ []) $
-        changed ! h fm (ByValue 𝓤 H A at-mem run) known passed ensures (λ r. r ≡ moveToCall h i w) (λ _. from ! (stop !)) (λ _. from ! (stop !)) (λ _. from ! (fld ! refl (stop !))) (λ _. from ! (fld ! refl (stop !))) asked (λ v. id⊢ 𝓤 _) is
+        changed ! h fm (ByValue 𝓤 H A at-mem run) known passed ensures (λ r. r ≡ setAccCall h i w) (λ _. from ! (stop !)) (λ _. from ! (stop !)) (λ _. from ! (fld ! refl (stop !))) (λ _. from ! (fld ! refl (stop !))) asked (λ v. id⊢ 𝓤 _) is
         (and-then ! (load ! (from ! (stop !)) (look ! 6 refl)) (and-then ! (load ! (from ! (stop !)) (look ! 13 refl)) (and-then ! (load ! (from ! (stop !)) (look ! 11 refl)) (no-more !)))) (λ r e n-is.
         returns ! (look ! 6 refl) $ forget ! 3 refl $ forget ! 4 refl $ forget ! 5 refl $ forget ! 6 refl $ forget ! 9 refl $ forget ! 11 refl $ move ! (6 ∷ 14 ∷ 5 ∷ 13 ∷ 11 ∷ 12 ∷ 9 ∷ 10 ∷ 4 ∷ 8 ∷ 3 ∷ 7 ∷ []) $ free1 ! $ free1 ! $ free1 ! $ free1 ! $ free1 ! $ free1 ! $ free0 ! $ keep ! (0 ∷ 1 ∷ 2 ∷ []) $ by ! (exits r e n-is))))))))
 
@@ -106,10 +106,10 @@ meets 𝓤 H A W at-mem run 𝓣 known =
     (walked 𝓤 H A f.ended stayed (f.clauses 𝓤 H A at-mem run) (WpFn 𝓤 H (𝓣 .C) (𝓣 .Λ) code.function) (λ κs. (ptr-vals, (uint-vals w32, (uint-vals w32, tt)))) (λ κs. (mut-tells (named 0) (κs .0) T.the-row, (uint-tells w32, (uint-tells w32, tt))))
     (λ κs qs bounds a _ are. via 𝓤 _ (fst∗ 𝓤 _ (emp 𝓤)) (walk 𝓤 H A W at-mem run (κs .0) (qs .0) (a .0 .ptr .0) (a .0 .ptr .1) (a .0 .name) (a .0 .now) (a .1 .0) (a .1 .1 .0) (are .1 .0 .1) (are .1 .1 .0 .1) (𝓣 .C) (𝓣 .Λ) (fmOf 𝓤 H (W .laws) 𝓣) known)))
 
-pub move-to-spec : {M : Type 1} → stated.statement M
+pub set-acc-spec : {M : Type 1} → stated.statement M
 unfolding code.routine tablesOf
-move-to-spec 𝓤 H 𝓜 𝓖 𝓡 =
+set-acc-spec 𝓤 H 𝓜 𝓖 𝓡 =
     entered 𝓤 H (tripleOf 𝓤 H (𝓖 .A) f.signature (f.spec 𝓤 H (𝓖 .A) (𝓜 .mem) (𝓡 .run)))
     (tables 𝓤 H 𝓜 𝓡 code.env .C) (tables 𝓤 H 𝓜 𝓡 code.env .Λ) #f code.function (code.unfolded 𝓤 H 𝓜 𝓡)
     (meets 𝓤 H (𝓖 .A) (givenOf 𝓤 H 𝓜 𝓖) (𝓜 .mem) (𝓡 .run) (tablesOf 𝓤 H 𝓜 (tables 𝓤 H 𝓜 𝓡 code.env))
-    (cited 𝓤 H (ByValue 𝓤 H (𝓖 .A) (𝓜 .mem) (𝓡 .run)) 𝓜 𝓡 code.env #g g-def.routine code.calls-emac-lent·unit·move-to (g-thm.met 𝓤 H 𝓜 𝓖 𝓡)))
+    (cited 𝓤 H (ByValue 𝓤 H (𝓖 .A) (𝓜 .mem) (𝓡 .run)) 𝓜 𝓡 code.env #g g-def.routine code.calls-emac-lent·unit·set-acc (g-thm.met 𝓤 H 𝓜 𝓖 𝓡)))

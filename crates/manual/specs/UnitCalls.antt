@@ -1,14 +1,10 @@
 -- The calls on a multiply-accumulate unit alone. One that is not admitted is refused, and then a number that is no accumulator's; a refused
 -- call leaves the unit as it was. Document: "Numbered replies".
 use Prim.Native.Nat.{ℕ}
-use mathlib.Core.Bool.{Bool, cond}
-use lib.Dec.{ltb}
-use Rattle.manual.specs.declared.Emac.{Emac}
-use Rattle.manual.specs.declared.Reply.{Reply}
-use Rattle.manual.specs.declared.Reply.the-variants.{Done, NotAdmitted, OutOfRange}
-use Rattle.manual.specs.Emac.{accumulate, setMacsr, moveTo, clearAcc}
-use Rattle.manual.specs.Admitted.{emacAdmitted}
-use Rattle.emac_lent.specs.declared.unit.EmacAnswer.{EmacAnswer}
+use mathlib.Core.{Bool.Bool, Bool.cond}
+use lib.{Dec.ltb}
+use Rattle.manual.specs.declared.{Emac.Emac, Reply.Reply, Reply.the-variants.Done, Reply.the-variants.NotAdmitted, Reply.the-variants.OutOfRange, EmacAnswer.EmacAnswer}
+use Rattle.manual.specs.{Emac.accumulate, Emac.setMacsr, Emac.setAcc, Emac.clearAcc, Admitted.emacAdmitted}
 
 -- a reply and the unit that goes with it
 abbrev pub answer : Reply → Emac → EmacAnswer
@@ -28,8 +24,8 @@ accumulateCall e i s sub x y = accChanged e i (accumulate e i s sub x y)
 unfoldable pub setMacsrCall : Emac → ℕ → EmacAnswer
 setMacsrCall e v = changed e (setMacsr e v)
 
-unfoldable pub moveToCall : Emac → ℕ → ℕ → EmacAnswer
-moveToCall e i v = accChanged e i (moveTo e i v)
+unfoldable pub setAccCall : Emac → ℕ → ℕ → EmacAnswer
+setAccCall e i v = accChanged e i (setAcc e i v)
 
 unfoldable pub clearAccCall : Emac → ℕ → EmacAnswer
 clearAccCall e i = accChanged e i (clearAcc e i)

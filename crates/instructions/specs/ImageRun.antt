@@ -1,12 +1,8 @@
--- What the program `coreimage` prints of a file, and storage after it. Document: "An image file". Assumes nothing.
+-- What the program `coreimage` prints of a file, and storage after it. Document: "An image file".
 use Prim.Native.Nat.{ℕ}
-use mathlib.Core.Bool.{cond}
-use mathlib.Core.List.{List}
-use Rattle.manual.specs.Memory.{Storage}
-use Rattle.manual.specs.Reply.{isDone}
-use Rattle.manual.specs.Lent.{lent}
-use Rattle.manual.specs.Image.{Image, Printed, loadImage, answerLine, runText, textOf}
-use Rattle.instructions.specs.Run.{RunOutcome, run}
+use mathlib.Core.{Bool.cond, List.List}
+use Rattle.manual.specs.{Memory.Storage, Reply.isDone, Lent.lent, Image.Image, Image.Printed, Image.loadImage, Image.answerLine, Image.runText, Image.textOf}
+use Rattle.instructions.specs.{Run.RunOutcome, Run.run}
 
 pub record ImageRan : Type 0 where
   pub text : Printed
