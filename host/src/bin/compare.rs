@@ -26,6 +26,8 @@ mod programs;
 mod random;
 #[path = "../cases.rs"]
 mod cases;
+#[path = "../witnesses.rs"]
+mod witnesses;
 include!(concat!(env!("OUT_DIR"), "/original.rs"));
 
 use cases::*;
@@ -673,6 +675,21 @@ fn by_hand(c: &mut Compare) {
     }
 }
 
+/// The differences from the manual: both sides leave what the table of witnesses says.
+fn differences(c: &mut Compare) {
+    for w in witnesses::all() {
+        let (original, core) = (w.case.expected(&mut c.oracle), w.case.got());
+        if !same(&original, &w.leaves) || !same(&core, &w.leaves) {
+            println!("difference {}, {:X?}: the table says {}", w.name, w.case.call, witnesses::text(&w.case, &w.leaves));
+            println!("  the original {}", witnesses::text(&w.case, &original));
+            println!("  this core    {}", witnesses::text(&w.case, &core));
+            // Where the two sides differ from each other, check counts it.
+            c.differ += same(&original, &core) as u64;
+        }
+        c.check("differences from the manual", w.case);
+    }
+}
+
 #[no_mangle]
 pub extern "C" fn main() -> i32 {
     let args: Vec<u64> = std::env::args().skip(1).map_while(|a| a.parse().ok()).collect();
@@ -694,6 +711,7 @@ pub extern "C" fn main() -> i32 {
         said: 0,
     };
     by_hand(&mut c);
+    differences(&mut c);
     for round in 0..rounds {
         let mut r = Random::new(seed.wrapping_add(round.wrapping_mul(1_000_003)));
         words(&mut c, &mut r);

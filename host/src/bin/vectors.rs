@@ -1,6 +1,8 @@
 //! `vectors SEED ROWS`: a sample of the original's answers on standard output, for the program replay;
 //! crates/replay/VECTORS.md has the format. ROWS is the definition's table of rows: every row has its
-//! share of steps. The same seed makes the same bytes. What the sample holds goes to standard error.
+//! share of steps. After the sample come the witnesses of the differences from the manual; where the
+//! original leaves something else than their table says, nothing is written. The same seed makes the
+//! same bytes. What the sample holds, and what replay must print of it, goes to standard error.
 
 #![no_main]
 
@@ -23,9 +25,11 @@ mod jit;
 mod oracle;
 #[path = "../random.rs"]
 mod random;
+#[path = "../witnesses.rs"]
+mod witnesses;
 include!(concat!(env!("OUT_DIR"), "/original.rs"));
 
-use cases::{accumulator, data, edge, put, tame, Call, Case, Random};
+use cases::{accumulator, data, edge, put, same, tame, Call, Case, Random};
 use host::{Reply, State};
 use oracle::Oracle;
 use std::collections::BTreeMap;
@@ -373,6 +377,21 @@ impl Vectors {
             self.add(&case);
         }
     }
+
+    /// The witnesses of the differences; answers how many are not what the table says.
+    fn witnesses(&mut self) -> u32 {
+        let mut wrong = 0;
+        for w in witnesses::all() {
+            let answer = w.case.expected(&mut self.oracle);
+            if !same(&answer, &w.leaves) {
+                wrong += 1;
+                eprintln!("difference {}: the table says {}", w.name, witnesses::text(&w.case, &w.leaves));
+                eprintln!("  the original {}", witnesses::text(&w.case, &answer));
+            }
+            self.add(&w.case);
+        }
+        wrong
+    }
 }
 
 /// The rows of the definition's table: 'row VALUE MASK'.
@@ -420,15 +439,23 @@ pub extern "C" fn main() -> i32 {
     v.entries(288);
     v.runs(140);
     v.refused(216);
+    let sampled = v.records;
+    if v.witnesses() > 0 {
+        eprintln!("nothing is written");
+        return 1;
+    }
     let count = v.records.to_be_bytes();
     v.out[..4].copy_from_slice(&count);
     std::io::stdout().write_all(&v.out).expect("standard output");
     std::io::stdout().flush().expect("standard output");
-    eprintln!("{} records, {} bytes", v.records, v.out.len());
+    eprintln!("{} records, of which {} are the witnesses', {} bytes", v.records, v.records - sampled, v.out.len());
     for ((name, reply), n) in &v.seen {
         eprintln!("{name}: reply {reply}: {n}");
     }
     let never: Vec<String> = (0..v.rows.len()).filter(|&i| v.completed[i] == 0).map(|i| format!("{:04X}", v.rows[i].0)).collect();
     eprintln!("{} rows; without a completed step: {}", v.rows.len(), never.join(" "));
+    let sum = v.out.iter().fold(0u64, |sum, &b| (sum * 257 + b as u64) % (1 << 32));
+    let (n, len) = (v.records, v.out.len());
+    eprintln!("stdout is to be:\nrecords {n}\nagree {n}\nfirst that differs 0\nbytes {len}\nbytes replayed {len}\nsum {sum}");
     0
 }
