@@ -56,7 +56,7 @@ bitOfData g pc sr op n =
     done pc (testCodes sr (not (bitOf (n % 32) v))) noWrite (writeData (register op) (changedBit (bitOperator op) (n % 32) v))
 
 -- anywhere else: a byte, bit n modulo 8. BTST, operation 0, stores nothing
--- 47, 57. BTST takes An, an immediate and places relative to the program counter. The manual: no An; the others are not remembered
+-- 47, 57. BTST takes An, an immediate and places relative to the program counter. The manual: no An; whether the others, is unsure
 unfoldable pub bitOfByte : List ℕ → ℕ → ℕ → Memory → ℕ → ℕ → Change
 bitOfByte g pc sr m op n =
     readingPlace g m pc op Byte λ to v.

@@ -19,7 +19,7 @@ inLine n row g at sr other e m op =
     line5 row g at sr m op ∷  -- 5 ADDQ, SUBQ, Scc, TPF
     line6 row g at sr m op ∷  -- 6 Bcc, BSR, BRA
     line7 row g at sr m op ∷  -- 7 MOVEQ, MVS, MVZ
-    notCarried ∷  -- 8 OR, DIV.W
+    notCarried ∷  -- 8 OR, DIV.W: LINE8 8000/F000
     line9 row g at sr m op ∷  -- 9 SUB, SUBX
     lineA row g at sr e m op ∷  -- A the EMAC, MOV3Q
     lineB row g at sr m op ∷  -- B CMP, EOR
