@@ -21,18 +21,7 @@ use Rattle.memory.specs.MemoryLaws.{length-store, read-other, read-same}
 use Rattle.state.specs.AdmittedLaws.{admitted-emac}
 use Rattle.emac.specs.EmacKept.{acc-small, macsr-small}
 use Rattle.emac.specs.BlockLaws.{pattern-block, block-below, block-admitted}
-
--- the state's numbers fit their fields, as those of every state in the code do
-pub record Ranged (s : Cpu) : Type 0 where
-  pub registers : length (s .r) ≡ 16
-  pub each : (j : ℕ) → getD (s .r) j 0 < 2 ^ 32
-  pub pc : s .pc < 2 ^ 32
-  pub sr : s .sr < 2 ^ 16
-  pub other : s .other < 2 ^ 32
-  pub vbr : s .vbr < 2 ^ 32
-  pub cacr : s .cacr < 2 ^ 32
-  pub mask : s .emac .mask < 2 ^ 32
-  pub accumulators : length (s .emac .acc) ≡ 4
+use Rattle.block.specs.Typed.{Typed}
 
 -- a store above what is read
 above : (m : List ℕ) (a n v at k : ℕ) → at + k ≤ a → valueAt (storeAt m a n v) at k ≡ valueAt m at k
@@ -88,7 +77,7 @@ long-field : valueAt headed lengthAt 4 ≡ blockRest
 unfolding headed
 long-field = read-same _ lengthAt 4 blockRest (simp length-store (omega arith)) (omega arith)
 
-module _ (s : Cpu) (g : Ranged s) (b : List ℕ) (l : length b ≡ blockBytes) where
+module _ (s : Cpu) (g : Typed s) (b : List ℕ) (l : length b ≡ blockBytes) where
   length-controls : length (withControls s b) ≡ blockBytes
   unfolding withControls
   length-controls = simp length-store l
@@ -103,27 +92,27 @@ module _ (s : Cpu) (g : Ranged s) (b : List ℕ) (l : length b ≡ blockBytes) w
   unfolding withControls
   pc-back =
       above _ cacrAt 4 _ pcAt 4 (omega arith) ∙ above _ vbrAt 4 _ pcAt 4 (omega arith) ∙ above _ otherAt 4 _ pcAt 4 (omega arith)
-      ∙ above _ srAt 2 _ pcAt 4 (omega arith) ∙ read-same _ pcAt 4 (s .pc) (omega arith) (g .pc)
+      ∙ above _ srAt 2 _ pcAt 4 (omega arith) ∙ read-same _ pcAt 4 (s .pc) (omega arith) (g .pc-long)
 
   sr-back : valueAt (withControls s b) srAt 2 ≡ s .sr
   unfolding withControls
   sr-back =
       above _ cacrAt 4 _ srAt 2 (omega arith) ∙ above _ vbrAt 4 _ srAt 2 (omega arith) ∙ above _ otherAt 4 _ srAt 2 (omega arith)
-      ∙ read-same _ srAt 2 (s .sr) (simp length-store (omega arith)) (g .sr)
+      ∙ read-same _ srAt 2 (s .sr) (simp length-store (omega arith)) (g .sr-word)
 
   other-back : valueAt (withControls s b) otherAt 4 ≡ s .other
   unfolding withControls
   other-back =
       above _ cacrAt 4 _ otherAt 4 (omega arith) ∙ above _ vbrAt 4 _ otherAt 4 (omega arith)
-      ∙ read-same _ otherAt 4 (s .other) (simp length-store (omega arith)) (g .other)
+      ∙ read-same _ otherAt 4 (s .other) (simp length-store (omega arith)) (g .other-long)
 
   vbr-back : valueAt (withControls s b) vbrAt 4 ≡ s .vbr
   unfolding withControls
-  vbr-back = above _ cacrAt 4 _ vbrAt 4 (omega arith) ∙ read-same _ vbrAt 4 (s .vbr) (simp length-store (omega arith)) (g .vbr)
+  vbr-back = above _ cacrAt 4 _ vbrAt 4 (omega arith) ∙ read-same _ vbrAt 4 (s .vbr) (simp length-store (omega arith)) (g .vbr-long)
 
   cacr-back : valueAt (withControls s b) cacrAt 4 ≡ s .cacr
   unfolding withControls
-  cacr-back = read-same _ cacrAt 4 (s .cacr) (simp length-store (omega arith)) (g .cacr)
+  cacr-back = read-same _ cacrAt 4 (s .cacr) (simp length-store (omega arith)) (g .cacr-long)
 
 abbrev number : Emac → ℕ → ℕ
 number e i = blockNumber (modeOf (e .macsr)) (accOf e i)
@@ -203,7 +192,7 @@ bit-small : (b : Bool) → bit b < 256
 bit-small true = omega arith
 bit-small false = omega arith
 
-module _ (s : Cpu) (h : admitted s ≡ true) (g : Ranged s) where
+module _ (s : Cpu) (h : admitted s ≡ true) (g : Typed s) where
   unit : emacAdmitted (s .emac) ≡ true
   unit = admitted-emac s h
 
@@ -223,7 +212,7 @@ module _ (s : Cpu) (h : admitted s ≡ true) (g : Ranged s) where
   length-controlled = length-controls s g registered length-registered
 
   length-whole : length whole ≡ blockBytes
-  length-whole = length-unit (s .emac) unit (g .mask) controlled length-controlled
+  length-whole = length-unit (s .emac) unit (g .mask-long) controlled length-controlled
 
   pub length-block : length (blockOf s) ≡ blockBytes
   unfolding blockOf
@@ -234,7 +223,7 @@ module _ (s : Cpu) (h : admitted s ≡ true) (g : Ranged s) where
   from-unit at k p = above whole stoppedAt 1 (bit (s .stopped)) at k p
 
   from-controls : (at k : ℕ) → at + k ≤ macsrAt → valueAt (blockOf s) at k ≡ valueAt controlled at k
-  from-controls at k p = from-unit at k (omega arith) ∙ above-unit (s .emac) unit (g .mask) controlled length-controlled at k p
+  from-controls at k p = from-unit at k (omega arith) ∙ above-unit (s .emac) unit (g .mask-long) controlled length-controlled at k p
 
   from-registers : (at k : ℕ) → at + k ≤ pcAt → valueAt (blockOf s) at k ≡ valueAt registered at k
   from-registers at k p = from-controls at k (omega arith) ∙ above-controls s g registered length-registered at k p
@@ -245,27 +234,27 @@ module _ (s : Cpu) (h : admitted s ≡ true) (g : Ranged s) where
   registers-back : longsAt (blockOf s) 16 registersAt ≡ s .r
   registers-back =
       longs-same (blockOf s) registered pcAt from-registers 16 registersAt (omega arith)
-      ∙ longs-back 16 0 registersAt (s .r) headed (g .each) (omega (arith, g .registers)) (omega (arith, length-headed))
-      ∙ take-all 16 (s .r) (omega (arith, g .registers))
+      ∙ longs-back 16 0 registersAt (s .r) headed (g .registers) (omega (arith, g .sixteen)) (omega (arith, length-headed))
+      ∙ take-all 16 (s .r) (omega (arith, g .sixteen))
 
   stopped-back : valueAt (blockOf s) stoppedAt 1 ≡ bit (s .stopped)
   unfolding blockOf
   stopped-back = read-same whole stoppedAt 1 (bit (s .stopped)) (omega (arith, length-whole)) (bit-small (s .stopped))
 
   read-macsr : valueAt (blockOf s) macsrAt 4 ≡ s .emac .macsr
-  read-macsr = from-unit macsrAt 4 (omega arith) ∙ macsr-back (s .emac) unit (g .mask) controlled length-controlled
+  read-macsr = from-unit macsrAt 4 (omega arith) ∙ macsr-back (s .emac) unit (g .mask-long) controlled length-controlled
 
   read-acc0 : valueAt (blockOf s) (accAt 0) 8 ≡ number (s .emac) 0
-  read-acc0 = from-unit (accAt 0) 8 (omega arith) ∙ acc0-back (s .emac) unit (g .mask) controlled length-controlled
+  read-acc0 = from-unit (accAt 0) 8 (omega arith) ∙ acc0-back (s .emac) unit (g .mask-long) controlled length-controlled
 
   read-acc1 : valueAt (blockOf s) (accAt 1) 8 ≡ number (s .emac) 1
-  read-acc1 = from-unit (accAt 1) 8 (omega arith) ∙ acc1-back (s .emac) unit (g .mask) controlled length-controlled
+  read-acc1 = from-unit (accAt 1) 8 (omega arith) ∙ acc1-back (s .emac) unit (g .mask-long) controlled length-controlled
 
   read-acc2 : valueAt (blockOf s) (accAt 2) 8 ≡ number (s .emac) 2
-  read-acc2 = from-unit (accAt 2) 8 (omega arith) ∙ acc2-back (s .emac) unit (g .mask) controlled length-controlled
+  read-acc2 = from-unit (accAt 2) 8 (omega arith) ∙ acc2-back (s .emac) unit (g .mask-long) controlled length-controlled
 
   read-acc3 : valueAt (blockOf s) (accAt 3) 8 ≡ number (s .emac) 3
-  read-acc3 = from-unit (accAt 3) 8 (omega arith) ∙ acc3-back (s .emac) unit (g .mask) controlled length-controlled
+  read-acc3 = from-unit (accAt 3) 8 (omega arith) ∙ acc3-back (s .emac) unit (g .mask-long) controlled length-controlled
 
   pattern-of : (i : ℕ) → number (s .emac) i % 2 ^ 48 ≡ accOf (s .emac) i
   pattern-of i = pattern-block (modeOf (s .emac .macsr)) (accOf (s .emac) i) (acc-small (s .emac) unit i)
@@ -278,13 +267,13 @@ module _ (s : Cpu) (h : admitted s ≡ true) (g : Ranged s) where
   unit-back =
       rw (
         read-macsr,
-        from-unit maskAt 4 (omega arith) ∙ mask-back (s .emac) unit (g .mask) controlled length-controlled,
+        from-unit maskAt 4 (omega arith) ∙ mask-back (s .emac) unit (g .mask-long) controlled length-controlled,
         ap (λ (n : ℕ). n % 2 ^ 48) read-acc0 ∙ pattern-of 0,
         ap (λ (n : ℕ). n % 2 ^ 48) read-acc1 ∙ pattern-of 1,
         ap (λ (n : ℕ). n % 2 ^ 48) read-acc2 ∙ pattern-of 2,
         ap (λ (n : ℕ). n % 2 ^ 48) read-acc3 ∙ pattern-of 3,
       )
-      (same-unit (s .emac) (g .accumulators))
+      (same-unit (s .emac) (g .four))
 
   pub state-back : stateAt (blockOf s) ≡ s
   unfolding stateAt

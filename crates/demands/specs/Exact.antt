@@ -37,6 +37,7 @@ use Rattle.manual.specs.Block.{saysAdmitted, readBlock, storeBlock}
 use Rattle.manual.specs.Image.{imageState, imageReply, loadImage}
 use Rattle.instructions.specs.Step.{instruction, step}
 use Rattle.instructions.specs.Run.{RunOutcome, run}
+use Rattle.block.specs.Typed.{Typed}
 use Rattle.demands.specs.Accesses.{wanted, Inside, Outside, SomeOutside, entryAt, returnAt, accesses}
 
 -- the number of an outcome's reply
@@ -46,6 +47,10 @@ numbered o = numberOf (o .stepped .reply)
 -- every number of storage is a byte
 abbrev pub Bytes : Storage → Type 0
 Bytes b = (j : ℕ) → getD b j 0 < 256
+
+-- what the types say of every state and every memory
+abbrev pub Values : Cpu → Storage → Type 0
+Values s b = Typed s × Bytes b
 
 -- memory is too long: over 16,777,216 bytes
 abbrev pub TooLong : Lent → Type 0

@@ -29,12 +29,12 @@ use Rattle.memory.specs.MemoryLaws.{byte-store, length-store, value-lt}
 use Rattle.state.specs.AdmittedLaws.{admitted-status, pc-admitted}
 use Rattle.state.specs.FirstLaws.{first-admitted, first-kept}
 use Rattle.exceptions.specs.EntryAdmitted.{entered-admitted, returned-admitted}
-use Rattle.demands.specs.Exact.{Bytes, Ready}
+use Rattle.demands.specs.Exact.{Bytes, Values, Ready}
 use Rattle.demands.specs.AccessLaws.{byte-is}
 use Rattle.demands.specs.FirstReplies.{short-of}
 use Rattle.demands.specs.EntryLaws as laws
 use Rattle.demands.specs.ValueLaws as values
-use Rattle.demands.specs.Undone.{Values, Enters, Returns, AsLeft, Back, Undoes, Way, way, WayBack, way-back, swapsIn, spIn, turned, Left, way-left, Named, named, undoneState, sp-long, as-long, returned-undone, undone-back, entry-is-undone}
+use Rattle.demands.specs.Undone.{Enters, Returns, AsLeft, Back, Undoes, Way, way, WayBack, way-back, swapsIn, spIn, turned, Left, way-left, Named, named, undoneState, sp-long, as-long, returned-undone, undone-back, entry-is-undone}
 
 -- an entry that has not been returned from: the state, what was lent and the program counter that were handed to it, and its answer
 pub record Pending : Type 0 where
@@ -195,8 +195,8 @@ sp-under [] s l level h = tt
 sp-under (e ∷ es) s l level h =
     let t : Top e es s l = h .0 in
     let w : Way (e .state) (e .lent) (e .pc) (e .answer) = way _ _ _ _ (t .given) (t .enters) (t .done) in
-    let x : Left (e .state) (memoryOf (e .lent)) (w .at) (e .pc) (w .level) (w .vector) (e .answer .stepped .cpu) (e .answer .storage) = way-left _ _ _ _ (t .given .sixteen) w (t .done) in
-    let n : Named (e .state) (w .level) (e .answer .stepped .cpu) = named _ _ _ _ _ _ _ _ (t .given .sixteen) x in
+    let x : Left (e .state) (memoryOf (e .lent)) (w .at) (e .pc) (w .level) (w .vector) (e .answer .stepped .cpu) (e .answer .storage) = way-left _ _ _ _ (t .given .0 .sixteen) w (t .done) in
+    let n : Named (e .state) (w .level) (e .answer .stepped .cpu) = named _ _ _ _ _ _ _ _ (t .given .0 .sixteen) x in
     let x : spIn s level ≡ frameOf e = rw (no-swap s level (t .kept .same-s ∙ n .in-s)) (t .kept .same-a7) in
     rw x ((omega arith, t .low), t .above)
 
@@ -218,9 +218,9 @@ module _ (es : List Pending) (s : Cpu) (l : Lent) (pc : ℕ) (answer : Outcome) 
   entered-so =
       let level : Level = w .level in
       let sp : ℕ = spIn s level in
-      let x : Left s (memoryOf l) (w .at) pc level (w .vector) (answer .stepped .cpu) (answer .storage) = way-left _ _ _ _ (typed .sixteen) w done in
-      let n : Named s level (answer .stepped .cpu) = named _ _ _ _ _ _ _ _ (typed .sixteen) x in
-      let f : sp < 2 ^ 32 = sp-long s (l .storage) level typed in
+      let x : Left s (memoryOf l) (w .at) pc level (w .vector) (answer .stepped .cpu) (answer .storage) = way-left _ _ _ _ (typed .0 .sixteen) w done in
+      let n : Named s level (answer .stepped .cpu) = named _ _ _ _ _ _ _ _ (typed .0 .sixteen) x in
+      let f : sp < 2 ^ 32 = sp-long s level (typed .0) in
       let short : length (l .storage) ≤ longest = short-of s l (w .ready) in
       let admits : admitted s ≡ true = first-admitted s l (w .ready) in
       let below : framePlace sp + 8 ≤ sp = frame-below sp (length (l .storage)) f short (x .hi) (x .lo) in
@@ -230,10 +230,10 @@ module _ (es : List Pending) (s : Cpu) (l : Lent) (pc : ℕ) (answer : Outcome) 
       ∙ framed-byte sp (length (l .storage)) f short (x .hi) (x .lo) (l .storage) (w .vector) (s .sr) pc j out
       ∙ sym (byte-is (memoryOf l) j)
       in
-      let small : Bytes (answer .storage) = rw (x .storage-is) (values.framed-bytes (l .storage) sp (w .vector) (s .sr) pc (typed .bytes)) in
+      let small : Bytes (answer .storage) = rw (x .storage-is) (values.framed-bytes (l .storage) sp (w .vector) (s .sr) pc (typed .1)) in
       let handler : x .handler < 2 ^ 32 = rw (x .handler-is) (value-lt (answer .storage) (x .place) 4 small) in
       record {
-        typed = values.memory-values _ (l .storage) (rw (x .state-is) (values.handler-values s (l .storage) (w .at) level (framePlace sp) (x .handler) typed (w .at-long) (minus-below _ 4) handler)) _ small;
+        typed = (rw (x .state-is) (values.handler-typed s (w .at) level (framePlace sp) (x .handler) (typed .0) (w .at-long) (minus-below _ 4) handler), small);
         taken = rw (w .is) (entered-admitted s (memoryOf l) admits (withPc (w .at) s) level (w .vector) pc (pc-admitted (w .at) s admits));
         frames = frames-same sp es (memoryOf l) (memoryOf (afterwards l answer)) under (λ j h. byte j (inr (omega arith)));
         above = rw (n .at-frame) (above-less (framePlace sp) sp es (omega arith) under);
@@ -358,19 +358,19 @@ gone : (e : Pending) (es : List Pending) (s : Cpu) (l : Lent) (answer : Outcome)
 gone e es s l answer t returns =
     let given : Values (e .state) (e .lent .storage) = t .given in
     let w : Way (e .state) (e .lent) (e .pc) (e .answer) = way _ _ _ _ given (t .enters) (t .done) in
-    let x : Left (e .state) (memoryOf (e .lent)) (w .at) (e .pc) (w .level) (w .vector) (e .answer .stepped .cpu) (e .answer .storage) = way-left _ _ _ _ (given .sixteen) w (t .done) in
-    let n : Named (e .state) (w .level) (e .answer .stepped .cpu) = named _ _ _ _ _ _ _ _ (given .sixteen) x in
+    let x : Left (e .state) (memoryOf (e .lent)) (w .at) (e .pc) (w .level) (w .vector) (e .answer .stepped .cpu) (e .answer .storage) = way-left _ _ _ _ (given .0 .sixteen) w (t .done) in
+    let n : Named (e .state) (w .level) (e .answer .stepped .cpu) = named _ _ _ _ _ _ _ _ (given .0 .sixteen) x in
     let q : status (e .state .sr) ≡ e .state .sr = admitted-status (e .state) (first-admitted (e .state) (e .lent) (w .ready)) in
-    let long : length (l .storage) ≡ length (e .lent .storage) = as-long (e .state) (memoryOf (e .lent)) (w .at) (e .pc) (w .level) (w .vector) given q (w .small) (w .fits) _ (afterwards (e .lent) (e .answer)) x s l (t .typed .sixteen) (t .kept) in
+    let long : length (l .storage) ≡ length (e .lent .storage) = as-long (e .state) (memoryOf (e .lent)) (w .at) (e .pc) (w .level) (w .vector) given q (w .small) (w .fits) _ (afterwards (e .lent) (e .answer)) x s l (t .typed .0 .sixteen) (t .kept) in
     let ready : Ready s l = first-kept (e .state) s (e .lent) (l .storage) long (t .taken) (w .ready) in
     let r : WayBack s l answer = way-back s l answer (t .typed) ready (t .kept .same-s ∙ n .in-s) returns in
     record {
       level = w .level;
       at = r .at;
-      is = r .is ∙ returned-undone (e .state) (memoryOf (e .lent)) (w .at) (e .pc) (w .level) (w .vector) given q (w .small) (w .fits) _ (afterwards (e .lent) (e .answer)) x s l (t .typed .sixteen) (t .kept) s (r .at);
-      typed = values.undone-values (e .state) (e .lent .storage) (w .level) (r .at) (e .pc) s (l .storage) given (t .typed) (r .at-long) (w .fits);
+      is = r .is ∙ returned-undone (e .state) (memoryOf (e .lent)) (w .at) (e .pc) (w .level) (w .vector) given q (w .small) (w .fits) _ (afterwards (e .lent) (e .answer)) x s l (t .typed .0 .sixteen) (t .kept) s (r .at);
+      typed = (values.undone-typed (e .state) (w .level) (r .at) (e .pc) s (given .0) (t .typed .0) (r .at-long) (w .fits), t .typed .1);
       taken = rw (r .is) (returned-admitted s (memoryOf l) (t .taken) (withPc (r .at) s) (pc-admitted (r .at) s (t .taken)));
-      back = undone-back (e .state) (memoryOf (e .lent)) (w .at) (e .pc) (w .level) (w .vector) given q (w .small) (w .fits) _ (afterwards (e .lent) (e .answer)) x s l (t .typed .sixteen) (t .kept) (r .at);
+      back = undone-back (e .state) (memoryOf (e .lent)) (w .at) (e .pc) (w .level) (w .vector) given q (w .small) (w .fits) _ (afterwards (e .lent) (e .answer)) x s l (t .typed .0 .sixteen) (t .kept) (r .at);
       cacr = t .kept .same-cacr ∙ n .cacr-is;
       as-much = long;
       others = rw (x .state-is) (handler-others (e .state) (w .at) (w .level) _ (x .handler));

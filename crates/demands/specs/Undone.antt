@@ -29,20 +29,12 @@ use Rattle.word.specs.WordLaws.{plus-below}
 use Rattle.memory.specs.MemoryLaws.{length-store}
 use Rattle.state.specs.AdmittedLaws.{admitted-status}
 use Rattle.state.specs.FirstLaws.{first-admitted, first-kept}
+use Rattle.block.specs.Typed.{Typed}
 use Rattle.demands.specs.Accesses.{Inside}
-use Rattle.demands.specs.Exact.{Bytes, Ready}
+use Rattle.demands.specs.Exact.{Values, Ready}
 use Rattle.demands.specs.AccessLaws.{byte-is}
 use Rattle.demands.specs.EntryLaws as laws
 use Rattle.demands.specs.StepLaws as steps
-
--- what the types say of every state and every memory
-pub record Values (s : Cpu) (b : Storage) : Type 0 where
-  pub sixteen : length (s .r) ≡ 16
-  pub registers : (i : ℕ) → getD (s .r) i 0 < 2 ^ 32
-  pub pc-long : s .pc < 2 ^ 32
-  pub sr-word : s .sr < 2 ^ 16
-  pub other-long : s .other < 2 ^ 32
-  pub bytes : Bytes b
 
 -- the entries from the state s and what is lent, l: the program counter that the entry is handed, and what it answers
 pub data Enters (s : Cpu) (l : Lent) : ℕ → Outcome → Type 0 where
@@ -105,7 +97,7 @@ way s l pc entry typed (by-exception vector at level v p) e =
     let w : laws.Open s l (cond (levelTaken level) (entered s s level vector pc m) (unchanged s OutOfRange m)) (exception s l vector pc level) = laws.opened s l _ e in
     record {
       at = s .pc;
-      at-long = typed .pc-long;
+      at-long = typed .0 .pc-long;
       level = level;
       vector = vector;
       ready = w .ready;
@@ -121,12 +113,12 @@ way s l pc entry typed (by-interrupt vector level v) e =
     let one : cond (ltb level 8) k (unchanged s OutOfRange m) ≡ k = laws.passed (ltb level 8) OutOfRange laws.out-of-range-not s m k (rw (w .same) at e) in
     record {
       at = s .pc;
-      at-long = typed .pc-long;
+      at-long = typed .0 .pc-long;
       level = To level;
       vector = vector;
       ready = w .ready;
       small = v;
-      fits = typed .pc-long;
+      fits = typed .0 .pc-long;
       is = rw (steps.same-pc s) (w .same ∙ one ∙ laws.not-passed (masked (s .sr) level) Masked laws.masked-not s m i (rw (w .same, one) at e));
     }
 way s l pc entry typed (by-trap n h w) e =
@@ -150,7 +142,7 @@ pub record WayBack (s : Cpu) (l : Lent) (answer : Outcome) : Type 0 where
 pub way-back : (s : Cpu) (l : Lent) (answer : Outcome) → Values s (l .storage) → Ready s l → supervisor (s .sr) ≡ true → Returns s l answer → WayBack s l answer
 unfolding rte
 way-back s l answer typed ready h by-rte =
-    record { at = s .pc; at-long = typed .pc-long; is = rw (steps.same-pc s) (laws.goes-on s l _ ready) }
+    record { at = s .pc; at-long = typed .0 .pc-long; is = rw (steps.same-pc s) (laws.goes-on s l _ ready) }
 way-back s l answer typed ready h (by-word awake i w) =
     record { at = plus (s .pc) 2; at-long = plus-below (s .pc) 2; is = steps.step-rte s l ready awake i w h }
 
@@ -233,9 +225,9 @@ named s m at pc level vector s₁ b₁ n went =
 abbrev pub undoneState : Cpu → Level → ℕ → ℕ → Cpu → Cpu
 undoneState s level at pc s₂ = withPc pc (laws.after (swapsIn s level) (s .sr) (withAddress 7 (spIn s level) (withPc at s₂)))
 
-pub sp-long : (s : Cpu) (b : Storage) (level : Level) → Values s b → spIn s level < 2 ^ 32
+pub sp-long : (s : Cpu) (level : Level) → Typed s → spIn s level < 2 ^ 32
 unfolding addressOf
-sp-long s b level typed = pick (swapsIn s level) (typed .other-long) (typed .registers 15)
+sp-long s level typed = pick (swapsIn s level) (typed .other-long) (typed .registers 15)
   where
     pick : (b : Bool) → s .other < 2 ^ 32 → getD (s .r) 15 0 < 2 ^ 32 → cond b (s .other) (addressOf (s .r) 7) < 2 ^ 32
     pick true x y = x
@@ -253,9 +245,9 @@ module _ (s : Cpu) (m : Memory) (at pc : ℕ) (level : Level) (vector : ℕ) (ty
   pub returned-undone : (given : Cpu) (at₂ : ℕ) → returned given (withPc at₂ s₂) (memoryOf l₂) ≡ completed (undoneState s level at₂ pc s₂) 0 b₂
   unfolding returnState withPc withAddress
   returned-undone given at₂ =
-      let n : Named s level s₁ = named s m at pc level vector s₁ (l₁ .storage) (typed .sixteen) went in
+      let n : Named s level s₁ = named s m at pc level vector s₁ (l₁ .storage) (typed .0 .sixteen) went in
       let sp : ℕ = spIn s level in
-      let f : sp < 2 ^ 32 = sp-long s (storageOf m) level typed in
+      let f : sp < 2 ^ 32 = sp-long s level (typed .0) in
       let low : ℕ = framePlace sp in
       let high : ℕ = pcPlace sp in
       let w : ℕ = frameLong sp vector (s .sr) in
@@ -263,11 +255,11 @@ module _ (s : Cpu) (m : Memory) (at pc : ℕ) (level : Level) (vector : ℕ) (ty
       λ j h. sym (byte-is (memoryOf l₂) (plus low j)) ∙ rw (n .at-frame) at (kept .same-frame j h) ∙ byte-is (memoryOf l₁) (plus low j) ∙ ap (λ (b : Storage). getD b (plus low j) 0) (went .storage-is)
       in
       let ew : valueAt b₂ low 4 ≡ w =
-      laws.long-back (storageOf m) b₂ low high pc w (laws.low-byte sp f) (laws.high-byte sp f) (laws.apart sp f) (went .hi) (went .lo) frame (laws.long-fits sp vector (s .sr) v (typed .sr-word))
+      laws.long-back (storageOf m) b₂ low high pc w (laws.low-byte sp f) (laws.high-byte sp f) (laws.apart sp f) (went .hi) (went .lo) frame (laws.long-fits sp vector (s .sr) v (typed .0 .sr-word))
       in
       let ep : valueAt b₂ high 4 ≡ pc = laws.pc-back (storageOf m) b₂ low high pc w (laws.low-byte sp f) (laws.high-byte sp f) (laws.apart sp f) (went .hi) (went .lo) frame p in
       let up : plus low (frameBytes (w / 0x1000_0000)) ≡ sp =
-      ap (λ (x : ℕ). plus low (frameBytes x)) (laws.long-format sp vector (s .sr) v (typed .sr-word))
+      ap (λ (x : ℕ). plus low (frameBytes x)) (laws.long-format sp vector (s .sr) v (typed .0 .sr-word))
       ∙ ap (plus low) (laws.past-frame (sp % 4) (omega arith))
       ∙ laws.sp-again sp f
       in
@@ -284,7 +276,7 @@ module _ (s : Cpu) (m : Memory) (at pc : ℕ) (level : Level) (vector : ℕ) (ty
   pub undone-back : (at₂ : ℕ) → Back s pc (undoneState s level at₂ pc s₂)
   unfolding withPc withAddress
   undone-back at₂ =
-      let n : Named s level s₁ = named s m at pc level vector s₁ (l₁ .storage) (typed .sixteen) went in
+      let n : Named s level s₁ = named s m at pc level vector s₁ (l₁ .storage) (typed .0 .sixteen) went in
       let b : Bool = swapsIn s level in
       let t : Cpu = withAddress 7 (spIn s level) (withPc at₂ s₂) in
       let t7 : addressOf (t .r) 7 ≡ spIn s level = laws.a7-with (spIn s level) (withPc at₂ s₂) n₂ in
@@ -301,12 +293,12 @@ entry-is-undone s l pc entry typed enters e s₂ l₂ answer typed₂ taken₂ k
     let m : Memory = memoryOf l in
     let l₁ : Lent = lentOn l (entry .storage) in
     let w : Way s l pc entry = way s l pc entry typed enters e in
-    let x : Left s m (w .at) pc (w .level) (w .vector) (entry .stepped .cpu) (entry .storage) = way-left s l pc entry (typed .sixteen) w e in
+    let x : Left s m (w .at) pc (w .level) (w .vector) (entry .stepped .cpu) (entry .storage) = way-left s l pc entry (typed .0 .sixteen) w e in
     let q : status (s .sr) ≡ s .sr = admitted-status s (first-admitted s l (w .ready)) in
-    let n₂ : length (s₂ .r) ≡ 16 = typed₂ .sixteen in
+    let n₂ : length (s₂ .r) ≡ 16 = typed₂ .0 .sixteen in
     let long : length (l₂ .storage) ≡ length (l .storage) = as-long s m (w .at) pc (w .level) (w .vector) typed q (w .small) (w .fits) _ l₁ x s₂ l₂ n₂ kept in
     let ready₂ : Ready s₂ l₂ = first-kept s s₂ l (l₂ .storage) long taken₂ (w .ready) in
-    let n : Named s (w .level) (entry .stepped .cpu) = named s m (w .at) pc (w .level) (w .vector) _ _ (typed .sixteen) x in
+    let n : Named s (w .level) (entry .stepped .cpu) = named s m (w .at) pc (w .level) (w .vector) _ _ (typed .0 .sixteen) x in
     let r : WayBack s₂ l₂ answer = way-back s₂ l₂ answer typed₂ ready₂ (kept .same-s ∙ n .in-s) returns in
     let b : answer ≡ completed (undoneState s (w .level) (r .at) pc s₂) 0 (l₂ .storage) =
     r .is ∙ returned-undone s m (w .at) pc (w .level) (w .vector) typed q (w .small) (w .fits) _ l₁ x s₂ l₂ n₂ kept s₂ (r .at)

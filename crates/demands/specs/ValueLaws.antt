@@ -1,19 +1,22 @@
--- Entries and returns keep states and memories what their types say, and keep them admitted. Assumes nothing.
+-- A state that is what its types say stays so with a part replaced, and so do states and memories through entries and returns.
+-- Assumes nothing.
 use Prim.Native.Nat.{ℕ, zero, suc, _+_, _/_, _%_, _^_, _<_}
-use mathlib.Core.Path.{_∙_}
+use mathlib.Core.Path.{_≡_, _∙_}
 use mathlib.Core.Bool.{Bool, true, false}
 use mathlib.Core.List.{List, [], _∷_}
 use native.Mathlib.Omega.{arith}
-use lib.ListN.{getD, set, length-set}
+use lib.ListN.{length, getD, set, length-set}
 use Rattle.manual.specs.declared.Cpu.{Cpu}
+use Rattle.manual.specs.declared.Emac.{Emac}
 use Rattle.manual.specs.declared.Level.{Level}
-use Rattle.manual.specs.Registers.{addressOf, withAddress, withPc, withSr, withOther, withStopped}
+use Rattle.manual.specs.Registers.{addressOf, withRegisters, withAddress, withPc, withSr, withOther, withEmac, withStopped}
 use Rattle.manual.specs.Memory.{Storage, storeAt}
 use Rattle.manual.specs.Admitted.{status}
 use Rattle.manual.specs.Exceptions.{handlerSr, handlerState}
+use Rattle.block.specs.Typed.{Typed}
 use Rattle.demands.specs.Exact.{Bytes}
 use Rattle.demands.specs.EntryLaws as laws
-use Rattle.demands.specs.Undone.{Values, swapsIn, spIn, turned, undoneState, sp-long}
+use Rattle.demands.specs.Undone.{swapsIn, spIn, turned, undoneState, sp-long}
 
 -- ---- numbers below a bound stay below it
 
@@ -29,72 +32,125 @@ unfolding storeAt
 store-bytes m a zero v all = all
 store-bytes m a (suc n) v all = store-bytes (set m (a + n) (v % 256)) a n (v / 256) (set-below m (a + n) (v % 256) 256 all (omega arith))
 
-status-word : (v : ℕ) → status v < 2 ^ 16
+pub status-word : (v : ℕ) → status v < 2 ^ 16
 unfolding status
 status-word v = omega arith
 
 -- ---- a part replaced
 
-module _ (s : Cpu) (m : Storage) (typed : Values s m) where
-  pub memory-values : (m′ : Storage) → Bytes m′ → Values s m′
-  memory-values m′ all =
-      record { sixteen = typed .sixteen; registers = typed .registers; pc-long = typed .pc-long; sr-word = typed .sr-word; other-long = typed .other-long; bytes = all }
-
-  pc-values : (v : ℕ) → v < 2 ^ 32 → Values (withPc v s) m
-  unfolding withPc
-  pc-values v h =
-      record { sixteen = typed .sixteen; registers = typed .registers; pc-long = h; sr-word = typed .sr-word; other-long = typed .other-long; bytes = typed .bytes }
-
-  stopped-values : (b : Bool) → Values (withStopped b s) m
-  unfolding withStopped
-  stopped-values b =
-      record { sixteen = typed .sixteen; registers = typed .registers; pc-long = typed .pc-long; sr-word = typed .sr-word; other-long = typed .other-long; bytes = typed .bytes }
-
-  address-values : (v : ℕ) → v < 2 ^ 32 → Values (withAddress 7 v s) m
-  unfolding withAddress
-  address-values v h = record {
-    sixteen = length-set (s .r) 15 v ∙ typed .sixteen;
-    registers = set-below (s .r) 15 v (2 ^ 32) (typed .registers) h;
+module _ (s : Cpu) (typed : Typed s) where
+  pub registers-typed : (g : List ℕ) → length g ≡ 16 → ((i : ℕ) → getD g i 0 < 2 ^ 32) → Typed (withRegisters g s)
+  unfolding withRegisters
+  registers-typed g n all = record {
+    sixteen = n;
+    registers = all;
     pc-long = typed .pc-long;
     sr-word = typed .sr-word;
     other-long = typed .other-long;
-    bytes = typed .bytes;
+    vbr-long = typed .vbr-long;
+    cacr-long = typed .cacr-long;
+    mask-long = typed .mask-long;
+    four = typed .four;
   }
 
-  sr-values : (v : ℕ) → v < 2 ^ 16 → Values (withSr v s) m
+  pub pc-typed : (v : ℕ) → v < 2 ^ 32 → Typed (withPc v s)
+  unfolding withPc
+  pc-typed v h = record {
+    sixteen = typed .sixteen;
+    registers = typed .registers;
+    pc-long = h;
+    sr-word = typed .sr-word;
+    other-long = typed .other-long;
+    vbr-long = typed .vbr-long;
+    cacr-long = typed .cacr-long;
+    mask-long = typed .mask-long;
+    four = typed .four;
+  }
+
+  pub stopped-typed : (b : Bool) → Typed (withStopped b s)
+  unfolding withStopped
+  stopped-typed b = record {
+    sixteen = typed .sixteen;
+    registers = typed .registers;
+    pc-long = typed .pc-long;
+    sr-word = typed .sr-word;
+    other-long = typed .other-long;
+    vbr-long = typed .vbr-long;
+    cacr-long = typed .cacr-long;
+    mask-long = typed .mask-long;
+    four = typed .four;
+  }
+
+  pub address-typed : (v : ℕ) → v < 2 ^ 32 → Typed (withAddress 7 v s)
+  unfolding withAddress withRegisters
+  address-typed v h = registers-typed (set (s .r) 15 v) (length-set (s .r) 15 v ∙ typed .sixteen) (set-below (s .r) 15 v (2 ^ 32) (typed .registers) h)
+
+  pub sr-typed : (v : ℕ) → v < 2 ^ 16 → Typed (withSr v s)
   unfolding withSr
-  sr-values v h =
-      record { sixteen = typed .sixteen; registers = typed .registers; pc-long = typed .pc-long; sr-word = h; other-long = typed .other-long; bytes = typed .bytes }
+  sr-typed v h = record {
+    sixteen = typed .sixteen;
+    registers = typed .registers;
+    pc-long = typed .pc-long;
+    sr-word = h;
+    other-long = typed .other-long;
+    vbr-long = typed .vbr-long;
+    cacr-long = typed .cacr-long;
+    mask-long = typed .mask-long;
+    four = typed .four;
+  }
 
-  other-values : (v : ℕ) → v < 2 ^ 32 → Values (withOther v s) m
+  pub other-typed : (v : ℕ) → v < 2 ^ 32 → Typed (withOther v s)
   unfolding withOther
-  other-values v h =
-      record { sixteen = typed .sixteen; registers = typed .registers; pc-long = typed .pc-long; sr-word = typed .sr-word; other-long = h; bytes = typed .bytes }
+  other-typed v h = record {
+    sixteen = typed .sixteen;
+    registers = typed .registers;
+    pc-long = typed .pc-long;
+    sr-word = typed .sr-word;
+    other-long = h;
+    vbr-long = typed .vbr-long;
+    cacr-long = typed .cacr-long;
+    mask-long = typed .mask-long;
+    four = typed .four;
+  }
 
-  a7-long : addressOf (s .r) 7 < 2 ^ 32
+  pub emac-typed : (e : Emac) → e .mask < 2 ^ 32 → length (e .acc) ≡ 4 → Typed (withEmac e s)
+  unfolding withEmac
+  emac-typed e h n = record {
+    sixteen = typed .sixteen;
+    registers = typed .registers;
+    pc-long = typed .pc-long;
+    sr-word = typed .sr-word;
+    other-long = typed .other-long;
+    vbr-long = typed .vbr-long;
+    cacr-long = typed .cacr-long;
+    mask-long = h;
+    four = n;
+  }
+
+  pub a7-long : addressOf (s .r) 7 < 2 ^ 32
   unfolding addressOf
   a7-long = typed .registers 15
 
-after-values : (s : Cpu) (m : Storage) → Values s m → (b : Bool) (v : ℕ) → v < 2 ^ 16 → Values (laws.after b v s) m
-after-values s m typed true v h =
-    let a : Values (withAddress 7 (s .other) s) m = address-values s m typed (s .other) (typed .other-long) in
-    sr-values _ m (other-values _ m a (addressOf (s .r) 7) (a7-long s m typed)) v h
-after-values s m typed false v h = sr-values s m typed v h
+pub after-typed : (s : Cpu) → Typed s → (b : Bool) (v : ℕ) → v < 2 ^ 16 → Typed (laws.after b v s)
+after-typed s typed true v h =
+    let a : Typed (withAddress 7 (s .other) s) = address-typed s typed (s .other) (typed .other-long) in
+    sr-typed _ (other-typed _ a (addressOf (s .r) 7) (a7-long s typed)) v h
+after-typed s typed false v h = sr-typed s typed v h
 
 -- ---- an entry's state and memory, and a return's state
 
-pub handler-values : (s : Cpu) (m : Storage) (at : ℕ) (level : Level) (frame handler : ℕ) → Values s m → at < 2 ^ 32 → frame < 2 ^ 32 → handler < 2 ^ 32
-    → Values (handlerState (turned (withPc at s) level) frame handler) m
+pub handler-typed : (s : Cpu) (at : ℕ) (level : Level) (frame handler : ℕ) → Typed s → at < 2 ^ 32 → frame < 2 ^ 32 → handler < 2 ^ 32
+    → Typed (handlerState (turned (withPc at s) level) frame handler)
 unfolding handlerState
-handler-values s m at level frame handler typed p f h =
-    let t : Values (turned (withPc at s) level) m = after-values _ m (pc-values s m typed at p) (swapsIn (withPc at s) level) (status (handlerSr level (withPc at s .sr))) (status-word _) in
-    stopped-values _ m (pc-values _ m (address-values _ m t frame f) handler h) false
+handler-typed s at level frame handler typed p f h =
+    let t : Typed (turned (withPc at s) level) = after-typed _ (pc-typed s typed at p) (swapsIn (withPc at s) level) (status (handlerSr level (withPc at s .sr))) (status-word _) in
+    stopped-typed _ (pc-typed _ (address-typed _ t frame f) handler h) false
 
 pub framed-bytes : (m : Storage) (sp vector sr pc : ℕ) → Bytes m → Bytes (laws.frameOn m sp vector sr pc)
 framed-bytes m sp vector sr pc all = store-bytes _ _ 4 _ (store-bytes m _ 4 pc all)
 
-pub undone-values : (s : Cpu) (m : Storage) (level : Level) (at pc : ℕ) (s₂ : Cpu) (m₂ : Storage) → Values s m → Values s₂ m₂ → at < 2 ^ 32 → pc < 2 ^ 32
-    → Values (undoneState s level at pc s₂) m₂
-undone-values s m level at pc s₂ m₂ typed typed₂ p f =
-    let a : Values (withAddress 7 (spIn s level) (withPc at s₂)) m₂ = address-values _ m₂ (pc-values s₂ m₂ typed₂ at p) (spIn s level) (sp-long s m level typed) in
-    pc-values _ m₂ (after-values _ m₂ a (swapsIn s level) (s .sr) (typed .sr-word)) pc f
+pub undone-typed : (s : Cpu) (level : Level) (at pc : ℕ) (s₂ : Cpu) → Typed s → Typed s₂ → at < 2 ^ 32 → pc < 2 ^ 32
+    → Typed (undoneState s level at pc s₂)
+undone-typed s level at pc s₂ typed typed₂ p f =
+    let a : Typed (withAddress 7 (spIn s level) (withPc at s₂)) = address-typed _ (pc-typed s₂ typed₂ at p) (spIn s level) (sp-long s level typed) in
+    pc-typed _ (after-typed _ a (swapsIn s level) (s .sr) (typed .sr-word)) pc f
