@@ -1,7 +1,7 @@
--- The accesses that a step makes: each an address and a number of bytes. Document: "an access of n bytes at a is inside exactly when
+-- The reads that a step makes: each an address and a number of bytes. Document: "an access of n bytes at a is inside exactly when
 -- a + n, as whole numbers, is at most the length", and reply 4, "an access this call makes is not inside".
 --
--- A step fetches its opcode word, makes the reads of the word's row, and then the accesses of what the instruction leaves to be done.
+-- A step fetches its opcode word and makes the reads of the word's row; what it does to memory after them is listed in Effects.
 -- The reads stand in tables, line by line and row by row in the order of the rows. Where a read's address hangs on a word that was read
 -- before it, that word is what a load finds there. Assumes nothing.
 use Prim.Native.Nat.{ℕ, zero, suc, _+_, _/_, _%_}
@@ -100,6 +100,22 @@ reachedBy NoAddress l = none
 
 abbrev pub controlAt : List ℕ → Memory → ℕ → ℕ → List Wanted
 controlAt g m pc op = reachedBy (control g m pc (named op)) (extensionOf pc op Long)
+
+-- MOVEM: a long for each register of the mask, one after the other from a on; `left` of them are still to come
+unfoldable pub manyLongs : ℕ → ℕ → ℕ → List Wanted
+manyLongs zero regs a = none
+manyLongs (suc left) regs a =
+    cond (eqb (regs % 2) 1) (wanted a 4 ∷ manyLongs left (regs / 2) (plus a 4)) (manyLongs left (regs / 2) a)
+
+-- an entry from the registers s: two longs are stored, sp being A7 with the handler's status register, and the vector is read
+abbrev pub entryAt : Cpu → Level → ℕ → List Wanted
+entryAt s level vector =
+    let sp : ℕ = addressOf (setSr (handlerSr level (s .sr)) s .r) 7 in
+    wanted (pcPlace sp) 4 ∷ wanted (framePlace sp) 4 ∷ wanted (vectorPlace (s .vbr) vector) 4 ∷ []
+
+-- a return reads two longs
+abbrev pub returnAt : Cpu → List Wanted
+returnAt s = wanted (addressOf (s .r) 7) 4 ∷ wanted (plus (addressOf (s .r) 7) 4) 4 ∷ []
 
 -- ---- the reads of a word op at `at`, by its row
 
@@ -333,51 +349,3 @@ module _ (g : List ℕ) (at : ℕ) (m : Memory) (op : ℕ) where
       readsF row ∷
       [])
       (line op) none
-
--- ---- what an instruction leaves to be done
-
--- MOVEM: a long for each register of the mask, one after the other from a on; `left` of them are still to come
-abbrev pub manyLongs : ℕ → ℕ → ℕ → List Wanted
-manyLongs zero regs a = none
-manyLongs (suc left) regs a =
-    cond (eqb (regs % 2) 1) (wanted a 4 ∷ manyLongs left (regs / 2) (plus a 4)) (manyLongs left (regs / 2) a)
-
--- an entry from the registers s: two longs are stored, sp being A7 with the handler's status register, and the vector is read
-abbrev pub entryAt : Cpu → Level → ℕ → List Wanted
-entryAt s level vector =
-    let sp : ℕ = addressOf (setSr (handlerSr level (s .sr)) s .r) 7 in
-    wanted (pcPlace sp) 4 ∷ wanted (framePlace sp) 4 ∷ wanted (vectorPlace (s .vbr) vector) 4 ∷ []
-
--- a return reads two longs
-abbrev pub returnAt : Cpu → List Wanted
-returnAt s = wanted (addressOf (s .r) 7) 4 ∷ wanted (plus (addressOf (s .r) 7) 4) 4 ∷ []
-
--- s being the registers after the instruction's own changes
-abbrev pub leaves : Cpu → Action → List Wanted
-leaves s Nothing = none
-leaves s (Store a z v) = wanted a (bytes z) ∷ []
-leaves s (StoreMany regs a) = manyLongs 16 regs a
-leaves s (LoadMany regs a) = manyLongs 16 regs a
-leaves s (Enter vector pc) = entryAt s Kept vector
-leaves s Return = returnAt s
-leaves s (Status v) = none
-leaves s (Stop v) = none
-leaves s (PushStatus v) = longAt (minus (addressOf (s .r) 7) 4)
-leaves s Halt = none
-leaves s (SetOther v) = none
-leaves s (Accumulate i scale sub x y) = none
-leaves s (SetAcc i v) = none
-leaves s (SetExt i v) = none
-leaves s (SetMacsr v) = none
-leaves s (SetMask v) = none
-leaves s (CopyAcc from to) = none
-leaves s (ClearAcc i) = none
-leaves s (Refuse n) = none
-
--- ---- a step: the opcode word, the reads of its row, and what its instruction leaves to be done
-
-unfoldable pub accesses : Cpu → Memory → List Wanted
-accesses s m =
-    let op : ℕ = numberAt m (s .pc) Word in
-    let c : Change = instruction (s .r) (s .pc) (s .sr) (s .other) (s .emac) m op in
-    wanted (s .pc) 2 ∷ (reads (s .r) (s .pc) m op (s .emac .mask) ++ leaves (applied s c) (c .action))

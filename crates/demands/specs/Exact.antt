@@ -4,7 +4,7 @@
 --   1  memory too long
 --   2  state not admitted
 --   3  state stopped (step; run with budget left)
---   4  an access this call makes is not inside (those of a step are listed in Accesses)
+--   4  an access this call makes is not inside (those of a step are listed in Accesses and Effects)
 --   5  line 8; 0x4E7A, 0x4E7B; EMAC word operand
 --   6  level above 7, or accumulator number above 3
 --   7  interrupt masked: level below 7 and at most the mask
@@ -23,8 +23,6 @@ use Rattle.manual.specs.declared.Cpu.{Cpu}
 use Rattle.manual.specs.declared.Level.{Level}
 use Rattle.manual.specs.declared.Level.the-variants.{Kept, To}
 use Rattle.manual.specs.declared.Size.the-variants.{Word}
-use Rattle.manual.specs.declared.Action.{Action}
-use Rattle.manual.specs.declared.Action.the-variants.{Nothing, Store, StoreMany, LoadMany, Enter, Return, Status, Stop, PushStatus, Halt, SetOther, Accumulate, SetAcc, SetExt, SetMacsr, SetMask, CopyAcc, ClearAcc, Refuse}
 use Rattle.manual.specs.Word.{plus, minus}
 use Rattle.manual.specs.Registers.{addressOf}
 use Rattle.manual.specs.Memory.{Storage, Memory, storageOf, valueAt, numberAt}
@@ -35,10 +33,11 @@ use Rattle.manual.specs.Exceptions.{levelTaken, masked, exception, interrupt, r
 use Rattle.manual.specs.EmacCalls.{accGetCall, accSetCall, accPhysCall, setAccPhysCall, setMacsrCall}
 use Rattle.manual.specs.Block.{saysAdmitted, readBlock, storeBlock}
 use Rattle.manual.specs.Image.{imageState, imageReply, loadImage}
-use Rattle.instructions.specs.Step.{instruction, step}
+use Rattle.instructions.specs.Step.{step}
 use Rattle.instructions.specs.Run.{RunOutcome, run}
 use Rattle.block.specs.Typed.{Typed}
-use Rattle.demands.specs.Accesses.{wanted, Inside, Outside, SomeOutside, entryAt, returnAt, accesses}
+use Rattle.demands.specs.Accesses.{wanted, Inside, Outside, SomeOutside, entryAt, returnAt}
+use Rattle.demands.specs.Effects.{vectorOf, effectOf, accesses}
 
 -- the number of an outcome's reply
 abbrev pub numbered : Outcome → ℕ
@@ -87,38 +86,14 @@ pub data NotCarriedWord (m : Memory) (at op : ℕ) : Type 0 where
   word-operand : bitAnd op 0xF100 ≡ 0xA000 → op / 8 % 8 ≤ 5 → Inside m (plus at 2) 2 → numberAt m (plus at 2) Word / 0x800 % 2 ≡ 0
       → NotCarriedWord m at op
 
--- the vector that an instruction enters, or 0
-abbrev pub vectorOf : Action → ℕ
-vectorOf Nothing = 0
-vectorOf (Store a z v) = 0
-vectorOf (StoreMany regs a) = 0
-vectorOf (LoadMany regs a) = 0
-vectorOf (Enter vector pc) = vector
-vectorOf Return = 0
-vectorOf (Status v) = 0
-vectorOf (Stop v) = 0
-vectorOf (PushStatus v) = 0
-vectorOf Halt = 0
-vectorOf (SetOther v) = 0
-vectorOf (Accumulate i scale sub x y) = 0
-vectorOf (SetAcc i v) = 0
-vectorOf (SetExt i v) = 0
-vectorOf (SetMacsr v) = 0
-vectorOf (SetMask v) = 0
-vectorOf (CopyAcc from to) = 0
-vectorOf (ClearAcc i) = 0
-vectorOf (Refuse n) = 0
-
 -- done: nothing stands against it. (Of the calls that make no access, 0 is what is left: NoOthers.)
 pub record Reply0 : Type 0 where
   pub step-0 : (s : Cpu) (l : Lent) → Bytes (l .storage)
       → let m : Memory = memoryOf l in
       (numbered (step s l) ≡ 0)
       ↔ (Ready s l × ((s .stopped ≡ false) × ((SomeOutside m (accesses s m) → ⊥) × (NotCarriedWord m (s .pc) (numberAt m (s .pc) Word) → ⊥))))
-  -- a step also gives the vector it entered, or 0
-  pub step-vector : (s : Cpu) (l : Lent) → numbered (step s l) ≡ 0
-      → let m : Memory = memoryOf l in
-      step s l .stepped .vector ≡ vectorOf (instruction (s .r) (s .pc) (s .sr) (s .other) (s .emac) m (numberAt m (s .pc) Word) .action)
+  -- a step also gives the vector it entered, or 0: that of its row (Effects)
+  pub step-vector : (s : Cpu) (l : Lent) → numbered (step s l) ≡ 0 → step s l .stepped .vector ≡ vectorOf (effectOf s (memoryOf l))
   -- a run: as many steps as the budget says
   pub run-0 : (budget : ℕ) (s : Cpu) (l : Lent) → (numberOf (run budget s l .ran .reply) ≡ 0) ↔ (Ready s l × (run budget s l .ran .count ≡ budget))
   pub exception-0 : (s : Cpu) (l : Lent) (vector pc : ℕ) (level : Level)
@@ -173,7 +148,7 @@ pub record Reply4 : Type 0 where
   pub rte-4 : (s : Cpu) (l : Lent) → (numbered (rte s l) ≡ 4) ↔ (Ready s l × SomeOutside (memoryOf l) (returnAt s))
   pub push32-4 : (s : Cpu) (l : Lent) (v : ℕ) → (numbered (push32 s l v) ≡ 4) ↔ (Ready s l × Outside (memoryOf l) (minus (addressOf (s .r) 7) 4) 4)
   pub pop32-4 : (s : Cpu) (l : Lent) → (numberOf (pop32 s l .reply) ≡ 4) ↔ (Ready s l × Outside (memoryOf l) (addressOf (s .r) 7) 4)
-  -- a step: the fetch of its word, the reads of the word's row, and what its instruction leaves to be done
+  -- a step: the fetch of its word, the reads of the word's row, and the stores and reads of the row's effect
   pub step-4 : (s : Cpu) (l : Lent) → (numbered (step s l) ≡ 4) ↔ (Ready s l × ((s .stopped ≡ false) × SomeOutside (memoryOf l) (accesses s (memoryOf l))))
   -- a run: with budget left, some access of the next step is not inside, in the state and memory after the steps that were done
   pub run-4 : (budget : ℕ) (s : Cpu) (l : Lent)

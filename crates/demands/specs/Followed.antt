@@ -19,7 +19,8 @@ use Rattle.instructions.specs.Perform.{perform}
 use Rattle.instructions.specs.Step.{ofRow, step}
 use Rattle.rows.specs.RowLaws.{rowOf-lt, rowOf-fits, rowOf-is, unique, nested-rows, in-line, of-row}
 use Rattle.demands.specs.StepLaws as steps
-use Rattle.demands.specs.Accesses.{Inside, SomeOutside, accesses}
+use Rattle.demands.specs.Accesses.{Inside, SomeOutside}
+use Rattle.demands.specs.Effects.{accesses}
 use Rattle.demands.specs.AccessLaws.{word-lt}
 use Rattle.demands.specs.Exact.{Bytes, Ready, NotCarriedWord}
 use Rattle.demands.specs.ExactLaws.{reply-0}

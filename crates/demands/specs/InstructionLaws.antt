@@ -1,5 +1,5 @@
--- What every instruction refuses, and which accesses its own reads are: those of `Accesses.reads`. A refusal of any instruction is that
--- of an access, reply 4, but for the words that are not carried. Assumes nothing.
+-- Which reads every instruction makes, those of `Accesses.reads`, and what it does then, as `Effects.effect` says. A refusal of any
+-- instruction is that of a read, reply 4, but for the words that are not carried. Assumes nothing.
 use Prim.Native.Nat.{ℕ, _+_, _-_, _/_, _%_, _≤_, _<_}
 use mathlib.Core.Path.{_≡_, refl, sym, ap, _∙_}
 use mathlib.Core.Bool.{Bool, true, false, cond, false≢true}
@@ -18,7 +18,7 @@ use Rattle.manual.specs.declared.Stored.the-variants.{Done as Taken}
 use Rattle.manual.specs.declared.Change.{Change}
 use Rattle.manual.specs.Word.{plus, minus, signExtended}
 use Rattle.manual.specs.Fields.{line, register}
-use Rattle.manual.specs.Registers.{addressOf}
+use Rattle.manual.specs.Registers.{addressOf, noWrite}
 use Rattle.manual.specs.Memory.{Memory, access, taken, load, numberAt}
 use Rattle.manual.specs.Change.{acting, enterAfter, enter, illegal, notCarried, reading}
 use Rattle.word.specs.TestLaws.{by-lt}
@@ -40,7 +40,9 @@ use Rattle.instructions.specs.LineE as le
 use Rattle.instructions.specs.LineF as lf
 use Rattle.demands.specs.Accesses as acc
 use Rattle.demands.specs.Accesses.{none, wordAt, longAt, Wanted, Inside}
-use Rattle.demands.specs.PartLaws.{Made, illegal-made, cond-made, load-made, end, row, out, listed, accessAll, past-inside, refused-number}
+use Rattle.demands.specs.Effects as eff
+use Rattle.demands.specs.Effects.{Effect, nothing, enters, illegalWord, line-a as by-line-a}
+use Rattle.demands.specs.PartLaws.{Made, does-nothing, does-enter, illegal-does, either-reads, load-made, end, row, out, listed, accessAll, past-inside}
 use Rattle.demands.specs.BodyLaws.{movecRead, movecWrite, macRow, line0-made, moves-made, line4-made, sums-made, line5-made, line6-made, line7-made, lineB-made, lineC-made, lineE-made, lineF-made, lineA-made}
 use Rattle.demands.specs.AccessLaws.{load-inside, load-not}
 
@@ -56,36 +58,42 @@ module _ (g : List ℕ) (at sr mask : ℕ) (m : Memory) (op : ℕ) where
   abbrev base : ℕ
   base = addressOf g (register op)
 
-  mac-load : (next a : ℕ) → Made m (longAt (la.loadAddress mask second a)) (la.macLoad g next sr mask m op second a)
-  unfolding la.macLoad
-  mac-load next a = load-made m (la.loadAddress mask second a) Long [] _ refl
+  abbrev Makes : List Wanted → Effect → Change → Type 0
+  Makes l f c = Made at sr m l f c
 
-  -- what the parallel load reads after the second word
+  mac-load : (next a : ℕ) → Makes (longAt (la.loadAddress mask second a)) nothing (la.macLoad g next sr mask m op second a)
+  unfolding la.macLoad
+  mac-load next a = load-made at sr m (la.loadAddress mask second a) Long [] nothing _ (does-nothing refl)
+
+  -- what the parallel load reads after the second word, and what it does
   abbrev after : List Wanted
   after = cond (ltb 5 (op / 8 % 8)) none (cond (eqb (second / 0x800 % 2) 0) none (acc.loadReads g at m op mask second))
 
-  load-reads : Made m (acc.loadReads g at m op mask second)
+  abbrev loading : Effect
+  loading = cond (ltb 5 (op / 8 % 8)) (enters noWrite 10 at) nothing
+
+  load-reads : Makes (acc.loadReads g at m op mask second) nothing
       (cond (eqb (op / 8 % 8) 5)
       (reading (load m (plus at 4) Word) λ d. la.macLoad g (plus at 6) sr mask m op second (plus base (signExtended Word d)))
       (la.macLoad g (plus at 4) sr mask m op second (cond (eqb (op / 8 % 8) 4) (minus base 4) base)))
   load-reads =
       let displaced : ℕ = plus base (signExtended Word (numberAt m (plus at 4) Word)) in
       let plain : ℕ = cond (eqb (op / 8 % 8) 4) (minus base 4) base in
-      cond-made m (eqb (op / 8 % 8) 5) (wordAt (plus at 4) ++ longAt (la.loadAddress mask second displaced)) (longAt (la.loadAddress mask second plain)) _ _
-      (load-made m (plus at 4) Word (longAt (la.loadAddress mask second displaced)) _ (mac-load _ displaced))
+      either-reads at sr m (eqb (op / 8 % 8) 5) (wordAt (plus at 4) ++ longAt (la.loadAddress mask second displaced)) (longAt (la.loadAddress mask second plain)) nothing _ _
+      (load-made at sr m (plus at 4) Word (longAt (la.loadAddress mask second displaced)) nothing _ (mac-load _ displaced))
       (mac-load _ plain)
 
-  -- a word operand, or one whose accesses those are
-  abbrev WordOr : List Wanted → Change → Type 0
-  WordOr l c = ((op / 8 % 8 ≤ 5) × (second / 0x800 % 2 ≡ 0)) ⊎ Made m l c
+  -- a word operand, or one whose accesses and effect those are
+  abbrev WordOr : List Wanted → Effect → Change → Type 0
+  WordOr l f c = ((op / 8 % 8 ≤ 5) × (second / 0x800 % 2 ≡ 0)) ⊎ Makes l f c
 
-  with-load : WordOr after (la.macWithLoad g at sr mask m op second)
-  unfolding la.macWithLoad enter enterAfter acting
+  with-load : WordOr after loading (la.macWithLoad g at sr mask m op second)
+  unfolding la.macWithLoad enter noWrite
   with-load = by (ltb 5 (op / 8 % 8)) (eqb (second / 0x800 % 2) 0) refl refl _ load-reads
     where
-      by : (a b : Bool) → ltb 5 (op / 8 % 8) ≡ a → eqb (second / 0x800 % 2) 0 ≡ b → (rest : Change) → Made m (acc.loadReads g at m op mask second) rest
-          → WordOr (cond a none (cond b none (acc.loadReads g at m op mask second))) (cond a (enter sr 10 at) (cond b notCarried rest))
-      by true b ea eb rest h = inr refl
+      by : (a b : Bool) → ltb 5 (op / 8 % 8) ≡ a → eqb (second / 0x800 % 2) 0 ≡ b → (rest : Change) → Makes (acc.loadReads g at m op mask second) nothing rest
+          → WordOr (cond a none (cond b none (acc.loadReads g at m op mask second))) (cond a (enters noWrite 10 at) nothing) (cond a (enter sr 10 at) (cond b notCarried rest))
+      by true b ea eb rest h = inr (does-enter (by-line-a {w = noWrite} (omega arith)))
       by false true ea eb rest h = inl (ltb-false _ _ ea, eqb-true _ _ eb)
       by false false ea eb rest h = inr h
 
@@ -93,7 +101,7 @@ module _ (g : List ℕ) (at sr mask : ℕ) (m : Memory) (op : ℕ) where
   unfolding la.macWithLoad
   load-refused w h e = rw (le-ltb 5 (op / 8 % 8) h, eq-eqb _ _ e)
 
-  mac-made : MacWord at m op ⊎ Made m (acc.macReads g at m op mask) (la.mac g at sr mask m op)
+  mac-made : MacWord at m op ⊎ Makes (acc.macReads g at m op mask) (eff.macEffect g at sr m op) (la.mac g at sr mask m op)
   unfolding la.mac la.macRegisters acting
   mac-made = by (access m (plus at 2) 2) refl
     where
@@ -101,14 +109,14 @@ module _ (g : List ℕ) (at sr mask : ℕ) (m : Memory) (op : ℕ) where
       rest = cond (eqb (op / 16 % 4) 0) none after
 
       registers : (a b : Bool) → eqb (op / 16 % 4) 0 ≡ a → eqb (second / 0x800 % 2) 0 ≡ b
-          → WordOr (cond a none after) (cond a (cond b notCarried (la.macRegisters g at sr op second)) (la.macWithLoad g at sr mask m op second))
+          → WordOr (cond a none after) (cond a nothing loading) (cond a (cond b notCarried (la.macRegisters g at sr op second)) (la.macWithLoad g at sr mask m op second))
       registers true true ea eb = let e : op / 16 % 4 ≡ 0 = eqb-true _ _ ea in inl (omega arith, eqb-true _ _ eb)
-      registers true false ea eb = inr refl
+      registers true false ea eb = inr (does-nothing refl)
       registers false b ea eb = with-load
 
-      by : (x : Access) → access m (plus at 2) 2 ≡ x → MacWord at m op ⊎ Made m (acc.macReads g at m op mask) (la.mac g at sr mask m op)
-      by (Here p) i = ⊎-elim (λ h. inl (h .0, (ap taken i, h .1))) (λ h. inr (load-made m (plus at 2) Word rest _ h)) (registers _ _ refl refl)
-      by (Not x) i = inr (rw (load-not m (plus at 2) Word x i, i) (refused-number x))
+      by : (x : Access) → access m (plus at 2) 2 ≡ x → MacWord at m op ⊎ Makes (acc.macReads g at m op mask) (eff.macEffect g at sr m op) (la.mac g at sr mask m op)
+      by (Here p) i = ⊎-elim (λ h. inl (h .0, (ap taken i, h .1))) (λ h. inr (load-made at sr m (plus at 2) Word rest _ _ h)) (registers _ _ refl refl)
+      by (Not x) i = inr (rw (load-not m (plus at 2) Word x i, i))
 
   pub mac-refused : MacWord at m op → la.mac g at sr mask m op ≡ notCarried
   unfolding la.mac
@@ -126,6 +134,14 @@ module _ (g : List ℕ) (at sr mask : ℕ) (m : Memory) (op : ℕ) where
       by : (a : Bool) → accessAll m (cond a none after) ≡ Taken
       by true = refl
       by false = rw (le-ltb 5 (op / 8 % 8) (h .0), eq-eqb (second / 0x800 % 2) 0 (h .1 .1))
+
+  -- and nothing is done
+  mac-quiet : MacWord at m op → eff.macEffect g at sr m op ≡ nothing
+  mac-quiet h = by (eqb (op / 16 % 4) 0)
+    where
+      by : (a : Bool) → cond a nothing loading ≡ nothing
+      by true = refl
+      by false = rw (le-ltb 5 (op / 8 % 8) (h .0))
 
 -- ---- the words that are not carried, by their rows
 
@@ -187,77 +203,101 @@ module _ (g : List ℕ) (at sr other : ℕ) (e : Emac) (m : Memory) (op : ℕ) w
   abbrev its-reads : List Wanted
   its-reads = acc.reads g at m op (e .mask)
 
+  abbrev its-effect : Effect
+  its-effect = eff.effect g at sr m op
+
   abbrev its-change : Change
   its-change = instruction g at sr other e m op
 
-  lines : ((0 + op / 0x1000 % 16 ≡ 4) ⊎ ((0 + op / 0x1000 % 16 ≡ 8) ⊎ (0 + op / 0x1000 % 16 ≡ 10))) ⊎ Made m its-reads its-change
-  unfolding acc.reads instruction
+  lines : ((0 + op / 0x1000 % 16 ≡ 4) ⊎ ((0 + op / 0x1000 % 16 ≡ 8) ⊎ (0 + op / 0x1000 % 16 ≡ 10))) ⊎ Made at sr m its-reads its-effect its-change
+  unfolding acc.reads eff.effect instruction
   lines =
       let n : ℕ = rowOf op in
-      listed {P = λ k. (k ≡ 4) ⊎ ((k ≡ 8) ⊎ (k ≡ 10))}
-      (row (acc.reads0 g at m op n) (l0.line0 n g at sr m op) (line0-made g at sr m op n)
-      (row (acc.readsMoves g at m op (firstRow 1) Byte n) (moves.line1 n g at sr m op) (moves-made g at sr m op (firstRow 1) Byte n)
-      (row (acc.readsMoves g at m op (firstRow 2) Long n) (moves.line2 n g at sr m op) (moves-made g at sr m op (firstRow 2) Long n)
-      (row (acc.readsMoves g at m op (firstRow 3) Word n) (moves.line3 n g at sr m op) (moves-made g at sr m op (firstRow 3) Word n)
-      (out (acc.reads4 g at m op n) (l4.line4 n g at sr other m op) (inl refl)
-      (row (acc.reads5 g at m op n) (l5.line5 n g at sr m op) (line5-made g at sr m op n)
-      (row (acc.reads6 g at m op n) (l6.line6 n g at sr m op) (line6-made g at sr m op n)
-      (row (acc.reads7 g at m op n) (l7.line7 n g at sr m op) (line7-made g at sr m op n)
-      (out none notCarried (inr (inl refl))
-      (row (acc.reads9D g at m op (firstRow 9) n) (l9.line9 n g at sr m op) (sums-made g at sr m op (firstRow 9) false n)
-      (out (acc.readsA g at m op (e .mask) n) (la.lineA n g at sr e m op) (inr (inr refl))
-      (row (acc.readsB g at m op n) (lb.lineB n g at sr m op) (lineB-made g at sr m op n)
-      (row (acc.readsC g at m op n) (lc.lineC n g at sr m op) (lineC-made g at sr m op n)
-      (row (acc.reads9D g at m op (firstRow 0xD) n) (l9.lineD n g at sr m op) (sums-made g at sr m op (firstRow 0xD) true n)
-      (row none (le.lineE n g at sr op) (lineE-made g at sr m op n)
-      (row (acc.readsF g at m op n) (lf.lineF n g at sr m op) (lineF-made g at sr m op n)
+      listed at sr m {P = λ k. (k ≡ 4) ⊎ ((k ≡ 8) ⊎ (k ≡ 10))}
+      (row (acc.reads0 g at m op n) (eff.effects0 g at sr m op n) (l0.line0 n g at sr m op) (line0-made g at sr m op n)
+      (row (acc.readsMoves g at m op (firstRow 1) Byte n) (eff.effectsMoves g at sr m op (firstRow 1) Byte n) (moves.line1 n g at sr m op) (moves-made g at sr m op (firstRow 1) Byte n)
+      (row (acc.readsMoves g at m op (firstRow 2) Long n) (eff.effectsMoves g at sr m op (firstRow 2) Long n) (moves.line2 n g at sr m op) (moves-made g at sr m op (firstRow 2) Long n)
+      (row (acc.readsMoves g at m op (firstRow 3) Word n) (eff.effectsMoves g at sr m op (firstRow 3) Word n) (moves.line3 n g at sr m op) (moves-made g at sr m op (firstRow 3) Word n)
+      (out (acc.reads4 g at m op n) (eff.effects4 g at sr m op n) (l4.line4 n g at sr other m op) (inl refl)
+      (row (acc.reads5 g at m op n) (eff.effects5 g at sr m op n) (l5.line5 n g at sr m op) (line5-made g at sr m op n)
+      (row (acc.reads6 g at m op n) (eff.effects6 g at sr m op n) (l6.line6 n g at sr m op) (line6-made g at sr m op n)
+      (row (acc.reads7 g at m op n) (eff.effects7 g at sr m op n) (l7.line7 n g at sr m op) (line7-made g at sr m op n)
+      (out none nothing notCarried (inr (inl refl))
+      (row (acc.reads9D g at m op (firstRow 9) n) (eff.effects9D g at sr m op (firstRow 9) false n) (l9.line9 n g at sr m op) (sums-made g at sr m op (firstRow 9) false n)
+      (out (acc.readsA g at m op (e .mask) n) (eff.effectsA g at sr m op n) (la.lineA n g at sr e m op) (inr (inr refl))
+      (row (acc.readsB g at m op n) (eff.effectsB g at sr m op n) (lb.lineB n g at sr m op) (lineB-made g at sr m op n)
+      (row (acc.readsC g at m op n) (eff.effectsC g at sr m op n) (lc.lineC n g at sr m op) (lineC-made g at sr m op n)
+      (row (acc.reads9D g at m op (firstRow 0xD) n) (eff.effects9D g at sr m op (firstRow 0xD) true n) (l9.lineD n g at sr m op) (sums-made g at sr m op (firstRow 0xD) true n)
+      (row none (eff.effectsE g at sr m op n) (le.lineE n g at sr op) (lineE-made g at sr m op n)
+      (row (acc.readsF g at m op n) (eff.effectsF g at sr m op n) (lf.lineF n g at sr m op) (lineF-made g at sr m op n)
       end))))))))))))))))
-      (line op) none (illegal at sr) (illegal-made m at sr)
+      (line op) none (illegalWord at) (illegal at sr) (illegal-does at sr)
 
-  in-line-4 : op / 0x1000 % 16 ≡ 4 → (its-change ≡ l4.line4 (rowOf op) g at sr other m op) × (its-reads ≡ acc.reads4 g at m op (rowOf op))
-  unfolding acc.reads instruction
-  in-line-4 h = (rw h, rw h)
+  -- the reads, the effect and the change of a word by its line
+  record InLine (l : List Wanted) (f : Effect) (c : Change) : Type 0 where
+    reads-are : its-reads ≡ l
+    effect-is : its-effect ≡ f
+    change-is : its-change ≡ c
 
-  in-line-8 : op / 0x1000 % 16 ≡ 8 → (its-change ≡ notCarried) × (its-reads ≡ none)
-  unfolding acc.reads instruction
-  in-line-8 h = (rw h, rw h)
+  in-line-4 : op / 0x1000 % 16 ≡ 4 → InLine (acc.reads4 g at m op (rowOf op)) (eff.effects4 g at sr m op (rowOf op)) (l4.line4 (rowOf op) g at sr other m op)
+  unfolding acc.reads eff.effect instruction
+  in-line-4 h = record { reads-are = rw h; effect-is = rw h; change-is = rw h }
 
-  in-line-a : op / 0x1000 % 16 ≡ 10 → (its-change ≡ la.lineA (rowOf op) g at sr e m op) × (its-reads ≡ acc.readsA g at m op (e .mask) (rowOf op))
-  unfolding acc.reads instruction
-  in-line-a h = (rw h, rw h)
+  in-line-8 : op / 0x1000 % 16 ≡ 8 → InLine none nothing notCarried
+  unfolding acc.reads eff.effect instruction
+  in-line-8 h = record { reads-are = rw h; effect-is = rw h; change-is = rw h }
 
-  movec-at : (rowOf op ≡ movecRead) ⊎ (rowOf op ≡ movecWrite) → (l4.line4 (rowOf op) g at sr other m op ≡ notCarried) × (acc.reads4 g at m op (rowOf op) ≡ none)
-  unfolding acc.reads4 l4.line4 placeIn
-  movec-at (inl h) = (rw h, rw h)
-  movec-at (inr h) = (rw h, rw h)
+  in-line-a : op / 0x1000 % 16 ≡ 10 → InLine (acc.readsA g at m op (e .mask) (rowOf op)) (eff.effectsA g at sr m op (rowOf op)) (la.lineA (rowOf op) g at sr e m op)
+  unfolding acc.reads eff.effect instruction
+  in-line-a h = record { reads-are = rw h; effect-is = rw h; change-is = rw h }
 
-  at-mac : rowOf op ≡ macRow → (la.lineA (rowOf op) g at sr e m op ≡ la.mac g at sr (e .mask) m op) × (acc.readsA g at m op (e .mask) (rowOf op) ≡ acc.macReads g at m op (e .mask))
-  unfolding acc.readsA la.lineA placeIn
-  at-mac h = (rw h, rw h)
+  movec-at : (rowOf op ≡ movecRead) ⊎ (rowOf op ≡ movecWrite) → op / 0x1000 % 16 ≡ 4 → InLine none nothing notCarried
+  unfolding acc.reads4 eff.effects4 l4.line4 placeIn
+  movec-at (inl h) k = let i : InLine _ _ _ = in-line-4 k in record { reads-are = i .reads-are ∙ rw h; effect-is = i .effect-is ∙ rw h; change-is = i .change-is ∙ rw h }
+  movec-at (inr h) k = let i : InLine _ _ _ = in-line-4 k in record { reads-are = i .reads-are ∙ rw h; effect-is = i .effect-is ∙ rw h; change-is = i .change-is ∙ rw h }
 
-  -- the word is one of those and not carried, and its reads are inside; or the instruction refuses where one of its reads is not inside
+  at-mac : rowOf op ≡ macRow → op / 0x1000 % 16 ≡ 10 → InLine (acc.macReads g at m op (e .mask)) (eff.macEffect g at sr m op) (la.mac g at sr (e .mask) m op)
+  unfolding acc.readsA eff.effectsA la.lineA placeIn
+  at-mac h k = let i : InLine _ _ _ = in-line-a k in record { reads-are = i .reads-are ∙ rw h; effect-is = i .effect-is ∙ rw h; change-is = i .change-is ∙ rw h }
+
+  -- the word is one of those and not carried, its reads are inside and it does nothing
+  pub record NotCarriedHere : Type 0 where
+    pub excused : Excused at m op
+    pub refused-5 : its-change ≡ notCarried
+    pub inside-all : accessAll m its-reads ≡ Taken
+    pub no-effect : its-effect ≡ nothing
+
+  -- or the instruction is refused at the first of its reads that is not inside, and has its effect where all are
   abbrev Either : Type 0
-  Either = (Excused at m op × ((its-change ≡ notCarried) × (accessAll m its-reads ≡ Taken))) ⊎ Made m its-reads its-change
+  Either = NotCarriedHere ⊎ Made at sr m its-reads its-effect its-change
+
+  line-made : {l : List Wanted} {f : Effect} {c : Change} → InLine l f c → Made at sr m l f c → Either
+  line-made i h = inr (rw (i .reads-are, i .effect-is, i .change-is) h)
 
   line-4 : op / 0x1000 % 16 ≡ 4 → Either
-  line-4 h = ⊎-elim not-carried (λ f. inr (rw (in-line-4 h .0, in-line-4 h .1) f)) (line4-made g at sr m op other (rowOf op))
+  line-4 h = ⊎-elim not-carried (λ f. line-made (in-line-4 h) f) (line4-made g at sr m op other (rowOf op))
     where
       not-carried : (firstRow 4 + placeIn (firstRow 4) (rowOf op) ≡ movecRead) ⊎ (firstRow 4 + placeIn (firstRow 4) (rowOf op) ≡ movecWrite) → Either
       not-carried k =
           let r : (rowOf op ≡ movecRead) ⊎ (rowOf op ≡ movecWrite) = ⊎-elim (λ x. inl (row-at (firstRow 4) (rowOf op) movecRead (lit< tt) x)) (λ x. inr (row-at (firstRow 4) (rowOf op) movecWrite (lit< tt) x)) k in
-          inl (inr (inl r), (in-line-4 h .0 ∙ movec-at r .0, ap (accessAll m) (in-line-4 h .1 ∙ movec-at r .1)))
+          let i : InLine none nothing notCarried = movec-at r h in
+          inl (record { excused = inr (inl r); refused-5 = i .change-is; inside-all = ap (accessAll m) (i .reads-are); no-effect = i .effect-is })
 
   line-a : op / 0x1000 % 16 ≡ 10 → Either
-  line-a h = ⊎-elim row-mac (λ f. inr (rw (in-line-a h .0, in-line-a h .1) f)) (lineA-made g at sr m op e (rowOf op))
+  line-a h = ⊎-elim row-mac (λ f. line-made (in-line-a h) f) (lineA-made g at sr m op e (rowOf op))
     where
       row-mac : firstRow 0xA + placeIn (firstRow 0xA) (rowOf op) ≡ macRow → Either
       row-mac k =
           let r : rowOf op ≡ macRow = row-at (firstRow 0xA) (rowOf op) macRow (lit< tt) k in
-          let c : its-change ≡ la.mac g at sr (e .mask) m op = in-line-a h .0 ∙ at-mac r .0 in
-          let l : its-reads ≡ acc.macReads g at m op (e .mask) = in-line-a h .1 ∙ at-mac r .1 in
+          let i : InLine (acc.macReads g at m op (e .mask)) (eff.macEffect g at sr m op) (la.mac g at sr (e .mask) m op) = at-mac r h in
           ⊎-elim
-          (λ w. inl (inr (inr (r, w)), (c ∙ mac-refused g at sr (e .mask) m op w, ap (accessAll m) l ∙ mac-inside g at sr (e .mask) m op w)))
-          (λ f. inr (rw (c, l) f))
+          (λ w. inl (record {
+            excused = inr (inr (r, w));
+            refused-5 = i .change-is ∙ mac-refused g at sr (e .mask) m op w;
+            inside-all = ap (accessAll m) (i .reads-are) ∙ mac-inside g at sr (e .mask) m op w;
+            no-effect = i .effect-is ∙ mac-quiet g at sr (e .mask) m op w;
+          }))
+          (λ f. line-made i f)
           (mac-made g at sr (e .mask) m op)
 
   pub instruction-made : Either
@@ -268,7 +308,9 @@ module _ (g : List ℕ) (at sr other : ℕ) (e : Emac) (m : Memory) (op : ℕ) w
       lines
     where
       in-8 : op / 0x1000 % 16 ≡ 8 → Either
-      in-8 h = inl (inl h, (in-line-8 h .0, ap (accessAll m) (in-line-8 h .1)))
+      in-8 h =
+          let i : InLine none nothing notCarried = in-line-8 h in
+          inl (record { excused = inl h; refused-5 = i .change-is; inside-all = ap (accessAll m) (i .reads-are); no-effect = i .effect-is })
 
   movec-line : op < 0x1_0000 → (rowOf op ≡ movecRead) ⊎ (rowOf op ≡ movecWrite) → op / 0x1000 % 16 ≡ 4
   movec-line small (inl h) = omega (arith, movec-read op small h)
@@ -278,7 +320,6 @@ module _ (g : List ℕ) (at sr other : ℕ) (e : Emac) (m : Memory) (op : ℕ) w
   mac-line small h = omega (arith, in-line op macRow small (lit< tt) (mac-fits op small h) .0)
 
   pub excused-refused : op < 0x1_0000 → Excused at m op → its-change ≡ notCarried
-  excused-refused small (inl h) = in-line-8 h .0
-  excused-refused small (inr (inl h)) = in-line-4 (movec-line small h) .0 ∙ movec-at h .0
-  excused-refused small (inr (inr h)) =
-      in-line-a (mac-line small (h .0)) .0 ∙ at-mac (h .0) .0 ∙ mac-refused g at sr (e .mask) m op (h .1)
+  excused-refused small (inl h) = in-line-8 h .change-is
+  excused-refused small (inr (inl h)) = movec-at h (movec-line small h) .change-is
+  excused-refused small (inr (inr h)) = at-mac (h .0) (mac-line small (h .0)) .change-is ∙ mac-refused g at sr (e .mask) m op (h .1)

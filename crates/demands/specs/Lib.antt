@@ -1,4 +1,5 @@
 pub mod Accesses
+pub mod Effects
 pub mod Exact
 pub mod AccessLaws
 pub mod FirstReplies
@@ -13,6 +14,7 @@ pub mod PartLaws
 pub mod BodyLaws
 pub mod InstructionLaws
 pub mod ReplyLaws
+pub mod EffectLaws
 pub mod StepReplies
 pub mod EntryReplies
 pub mod CallReplies

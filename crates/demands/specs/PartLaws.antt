@@ -1,6 +1,6 @@
--- What the parts of an instruction refuse, and which accesses they make: a refusal is that of the first fault of the accesses, and
--- where there is none there is no refusal. Assumes nothing.
-use Prim.Native.Nat.{ℕ, zero, suc, _+_, _/_, _%_}
+-- Which accesses the parts of an instruction make, and what they do then: at the first fault of the accesses an instruction is refused,
+-- and where there is none it has its effect. Assumes nothing.
+use Prim.Native.Nat.{ℕ, zero, suc, _+_, _/_, _%_, _^_, _<_}
 use mathlib.Core.Path.{_≡_, refl, sym, _∙_}
 use mathlib.Core.Bool.{Bool, true, false, cond}
 use mathlib.Core.List.{List, [], _∷_, _++_}
@@ -29,36 +29,47 @@ use Rattle.manual.specs.declared.Operand.the-variants.{Data, Address, Indirect,
 use Rattle.manual.specs.declared.Action.{Action}
 use Rattle.manual.specs.declared.Action.the-variants.{Nothing, Store, StoreMany, LoadMany, Enter, Return, Status, Stop, PushStatus, Halt, SetOther, Accumulate, SetAcc, SetExt, SetMacsr, SetMask, CopyAcc, ClearAcc, Refuse}
 use Rattle.manual.specs.declared.Change.{Change}
-use Rattle.manual.specs.Word.{bytes}
+use Rattle.manual.specs.Word.{bytes, plus, minus}
 use Rattle.manual.specs.Memory.{Memory, storageOf, access, taken, firstFault, found, load, numberIn, numberAt}
-use Rattle.manual.specs.Address.{operand, extension, immediate, locate, fetch, value, source, reached, control, _then_, destination, destinationOf}
+use Rattle.manual.specs.Address.{operand, extension, immediate, locate, moved, fetch, value, source, reached, control, _then_, destination, destinationOf}
 use Rattle.manual.specs.Reply.{numberOf, faultReply}
-use Rattle.manual.specs.Change.{done, store, acting, enterAfter, enter, illegal, privilege, refuse, refused, reading, reaching, locating, put, putTo}
+use Rattle.manual.specs.Change.{done, store, acting, enterAfter, enter, illegal, privilege, refused, reading, reaching, locating, put, putTo, updating, Result}
 use Rattle.demands.specs.AccessLaws.{here-or-not, taken-or-not}
 use Rattle.demands.specs.Accesses.{Wanted, wanted, Inside, words, named, own, extensionOf, operandAt, reachedBy, controlAt, SomeOutside, this, another}
-use Rattle.manual.specs.Registers.{noWrite}
+use Rattle.manual.specs.Registers.{noWrite, writeAddress}
+use Rattle.demands.specs.Effects.{Effect, nothing, stores, pushesStatus, storesMany, loadsMany, enters, returns, toPlace, illegalWord, atAddress, operandValue, updates, Vector, illegal-word, violation}
 
--- the number that an action refuses with; 0 where it is no refusal
-abbrev pub refusing : Action → ℕ
-refusing Nothing = 0
-refusing (Store a z v) = 0
-refusing (StoreMany mask a) = 0
-refusing (LoadMany mask a) = 0
-refusing (Enter vector pc) = 0
-refusing Return = 0
-refusing (Status v) = 0
-refusing (Stop v) = 0
-refusing (PushStatus v) = 0
-refusing Halt = 0
-refusing (SetOther v) = 0
-refusing (Accumulate i scale sub x y) = 0
-refusing (SetAcc i v) = 0
-refusing (SetExt i v) = 0
-refusing (SetMacsr v) = 0
-refusing (SetMask v) = 0
-refusing (CopyAcc from to) = 0
-refusing (ClearAcc i) = 0
-refusing (Refuse n) = numberOf n
+-- an action that neither stores, reads memory, enters, returns nor refuses
+abbrev pub quiet : Action → Bool
+quiet Nothing = true
+quiet (Store a z v) = false
+quiet (StoreMany mask a) = false
+quiet (LoadMany mask a) = false
+quiet (Enter vector pc) = false
+quiet Return = false
+quiet (Status v) = true
+quiet (Stop v) = true
+quiet (PushStatus v) = false
+quiet Halt = true
+quiet (SetOther v) = true
+quiet (Accumulate i scale sub x y) = true
+quiet (SetAcc i v) = true
+quiet (SetExt i v) = true
+quiet (SetMacsr v) = true
+quiet (SetMask v) = true
+quiet (CopyAcc from to) = true
+quiet (ClearAcc i) = true
+quiet (Refuse n) = false
+
+-- the change c of a word at `at` has the effect, sr being the status register
+pub data Does (at sr : ℕ) : Effect → Change → Type 0 where
+  does-nothing : {c : Change} → quiet (c .action) ≡ true → Does at sr nothing c
+  does-store : {c : Change} {a : ℕ} {z : Size} {v : ℕ} → c .action ≡ Store a z v → Does at sr (stores a z v) c
+  does-push : (next v : ℕ) → Does at sr pushesStatus (acting sr next noWrite (PushStatus v))
+  does-store-many : (next : ℕ) {regs a : ℕ} → Does at sr (storesMany regs a) (acting sr next noWrite (StoreMany regs a))
+  does-load-many : (next : ℕ) {regs a : ℕ} → Does at sr (loadsMany regs a) (acting sr next noWrite (LoadMany regs a))
+  does-enter : {w : Write} {vector pc : ℕ} → Vector at w vector pc → Does at sr (enters w vector pc) (enterAfter w sr vector pc)
+  does-return : (next : ℕ) → Does at sr returns (acting sr next noWrite Return)
 
 -- all the accesses of a list: the first fault, if any
 abbrev pub accessAll : Memory → List Wanted → Stored
@@ -95,9 +106,14 @@ past-inside m a n l = by (access m a n)
     by (Here at) h = refl
     by (Not x) h = absurd (taken-or-not x h)
 
--- c refuses with the first fault of the accesses l, and with nothing where there is none
-abbrev pub Made : Memory → List Wanted → Change → Type 0
-Made m l c = refusing (c .action) ≡ numberOr (accessAll m l) 0
+-- what an instruction does after accesses with the first fault that is given: it is refused with the fault, or has the effect
+abbrev pub Follows : ℕ → ℕ → Stored → Effect → Change → Type 0
+Follows at sr Taken e c = Does at sr e c
+Follows at sr (NotTaken x) e c = c ≡ refused x
+
+-- c makes the accesses l and has then the effect e
+abbrev pub Made : ℕ → ℕ → Memory → List Wanted → Effect → Change → Type 0
+Made at sr m l e c = Follows at sr (accessAll m l) e c
 
 -- ---- the parts that bodies are made of
 
@@ -118,22 +134,37 @@ unreached (At (Value a)) = Taken
 unreached (At (NoValue x)) = NotTaken x
 unreached NoAddress = Taken
 
-pub refused-number : (x : Fault) → refusing (refused x .action) ≡ numberOf (faultReply x)
-unfolding refused refuse
-refused-number x = refl
+pub illegal-does : (at sr : ℕ) → Does at sr (illegalWord at) (illegal at sr)
+unfolding illegal enter
+illegal-does at sr = does-enter illegal-word
 
-pub illegal-made : (m : Memory) (at sr : ℕ) → Made m [] (illegal at sr)
-unfolding illegal enter enterAfter acting
-illegal-made m at sr = refl
+pub privilege-does : (at sr : ℕ) → Does at sr (enters noWrite 8 at) (privilege at sr)
+unfolding privilege enter noWrite
+privilege-does at sr = does-enter (violation {w = noWrite} (omega arith))
 
-pub privilege-made : (m : Memory) (at sr : ℕ) → Made m [] (privilege at sr)
-unfolding privilege enter enterAfter acting
-privilege-made m at sr = refl
+-- an operand's move is to an address, which wraps at 2 ^ 32
+pub move-fits : (g : List ℕ) (o : Operand) (z : Size) → moved g o z .value < 2 ^ 32
+unfolding moved noWrite writeAddress plus minus
+move-fits g (Data r) z = omega arith
+move-fits g (Address r) z = omega arith
+move-fits g (Indirect r) z = omega arith
+move-fits g (PostIncrement r) z = omega arith
+move-fits g (PreDecrement r) z = omega arith
+move-fits g (Displaced r) z = omega arith
+move-fits g (Indexed r) z = omega arith
+move-fits g AbsoluteWord z = omega arith
+move-fits g AbsoluteLong z = omega arith
+move-fits g PcDisplaced z = omega arith
+move-fits g PcIndexed z = omega arith
+move-fits g Immediate z = omega arith
+move-fits g Zero z = omega arith
 
 -- the first fault of two
 abbrev pub both : Stored → Stored → Stored
 both Taken y = y
 both (NotTaken x) y = NotTaken x
+
+-- ---- the accesses of the parts
 
 module _ (m : Memory) where
   -- one list and then another
@@ -146,41 +177,9 @@ module _ (m : Memory) where
       by (Here at) e = e
       by (Not x) e = refl
 
-  pub cond-made : (b : Bool) (l k : List Wanted) (x y : Change) → Made m l x → Made m k y → Made m (cond b l k) (cond b x y)
-  cond-made true l k x y p q = p
-  cond-made false l k x y p q = q
-
-  -- the same accesses either way
-  pub either-made : (b : Bool) (l : List Wanted) (x y : Change) → Made m l x → Made m l y → Made m l (cond b x y)
-  either-made true l x y p q = p
-  either-made false l x y p q = q
-
-  -- a number is read, and the rest hangs on it
-  pub load-made : (a : ℕ) (z : Size) (k : List Wanted) (f : ℕ → Change) → Made m k (f (numberAt m a z)) → Made m (wanted a (bytes z) ∷ k) (reading (load m a z) f)
-  unfolding load
-  load-made a z k f h = by (access m a (bytes z)) h
-    where
-      by : (x : Access) → Made m k (f (numberIn (found (storageOf m) z x)))
-          → refusing (reading (found (storageOf m) z x) f .action) ≡ numberOr (firstFault x (accessAll m k)) 0
-      by (Here at) h = h
-      by (Not x) h = refused-number x
-
-  -- ---- numbers that were read or not
-
   pub missing-found : (z : Size) (x : Access) → missing (found (storageOf m) z x) ≡ firstFault x Taken
   missing-found z (Here at) = refl
   missing-found z (Not x) = refl
-
-  pub reading-made : (l k : List Wanted) (got : Got) (f : ℕ → Change) → missing got ≡ accessAll m l → ((v : ℕ) → Made m k (f v)) → Made m (l ++ k) (reading got f)
-  reading-made l k (Value v) f e h = rw (all-both l k, ← e) (h v)
-  reading-made l k (NoValue x) f e h = rw (all-both l k, ← e) (refused-number x)
-
-  -- and no more than that
-  pub reading-only : (l : List Wanted) (got : Got) (f : ℕ → Change) → missing got ≡ accessAll m l → ((v : ℕ) → Made m [] (f v)) → Made m l (reading got f)
-  reading-only l (Value v) f e h = rw (← e) (h v)
-  reading-only l (NoValue x) f e h = rw (← e) (refused-number x)
-
-  -- ---- places
 
   then-place : (z : Size) (x : Access) (f : ℕ → Place) → ((v : ℕ) → nowhere (f v) ≡ Taken) → nowhere (found (storageOf m) z x then f) ≡ firstFault x Taken
   then-place z (Here at) f h = h _
@@ -205,71 +204,25 @@ module _ (m : Memory) where
     locate-made Immediate Long = then-place Long (access m pc 4) _ (λ v. refl)
     locate-made Zero z = refl
 
-  -- a value goes to a place that was looked for
-  pub put-made : (l : List Wanted) (g : List ℕ) (z : Size) (v : ℕ) (place : Place) (next codes : ℕ) (first second : Write)
-      → nowhere place ≡ accessAll m l → Made m l (put g z v place (done next codes first second))
-  unfolding put done store
-  put-made l g z v (D r) next codes first second e = rw (← e)
-  put-made l g z v (A r) next codes first second e = rw (← e)
-  put-made l g z v (M a) next codes first second e = rw (← e)
-  put-made l g z v (I i) next codes first second e = rw (← e)
-  put-made l g z v (NoPlace x) next codes first second e = rw (← e) (refused-number x)
-
-  pub put-to-made : (l : List Wanted) (g : List ℕ) (codes : ℕ) (to : Destination) (z : Size) (v : ℕ)
-      → nowhere (to .place) ≡ accessAll m l → Made m l (putTo g codes to z v)
-  unfolding putTo
-  put-to-made l g codes to z v e = put-made l g z v (to .place) (to .next) codes (to .moved) noWrite e
-
-  pub locating-made : (l : List Wanted) (place : Place) (c : Change) → nowhere place ≡ accessAll m l → Made m [] c → Made m l (locating place c)
-  locating-made l (D r) c e h = rw (← e) h
-  locating-made l (A r) c e h = rw (← e) h
-  locating-made l (M a) c e h = rw (← e) h
-  locating-made l (I v) c e h = rw (← e) h
-  locating-made l (NoPlace x) c e h = rw (← e) (refused-number x)
-
   -- what stands at a place that was looked for
-  module _ (g : List ℕ) (z : Size) (l : List Wanted) where
-    missing-at : (place : Place) → nowhere place ≡ accessAll m l → missing (fetch g m place z) ≡ accessAll m (l ++ own place z)
-    unfolding fetch load
-    missing-at (D r) e = rw (all-both l [], ← e)
-    missing-at (A r) e = rw (all-both l [], ← e)
-    missing-at (M a) e = rw (all-both l (wanted a (bytes z) ∷ []), ← e) (missing-found z (access m a (bytes z)))
-    missing-at (I v) e = rw (all-both l [], ← e)
-    missing-at (NoPlace x) e = rw (all-both l [], ← e)
+  missing-at : (g : List ℕ) (z : Size) (l : List Wanted) (place : Place) → nowhere place ≡ accessAll m l
+      → missing (fetch g m place z) ≡ accessAll m (l ++ own place z)
+  unfolding fetch load
+  missing-at g z l (D r) e = rw (all-both l [], ← e)
+  missing-at g z l (A r) e = rw (all-both l [], ← e)
+  missing-at g z l (M a) e = rw (all-both l (wanted a (bytes z) ∷ []), ← e) (missing-found z (access m a (bytes z)))
+  missing-at g z l (I v) e = rw (all-both l [], ← e)
+  missing-at g z l (NoPlace x) e = rw (all-both l [], ← e)
 
-    -- it is read, and then nothing is refused where there is such a place
-    pub fetch-made : (place : Place) (f : ℕ → Change) → nowhere place ≡ accessAll m l → ((v : ℕ) → nowhere place ≡ Taken → Made m [] (f v))
-        → Made m (l ++ own place z) (reading (fetch g m place z) f)
-    unfolding fetch
-    fetch-made (D r) f e h = rw (all-both l [], ← e) (h _ refl)
-    fetch-made (A r) f e h = rw (all-both l [], ← e) (h _ refl)
-    fetch-made (M a) f e h = reading-only (l ++ own (M a) z) (fetch g m (M a) z) f (missing-at (M a) e) (λ v. h v refl)
-    fetch-made (I v) f e h = rw (all-both l [], ← e) (h _ refl)
-    fetch-made (NoPlace x) f e h = rw (all-both l [], ← e) (refused-number x)
-
-  -- ---- the operand that a word names
-
+  -- the operand that a word names: it is read, or written
   module _ (g : List ℕ) (pc op : ℕ) (z : Size) where
-    missing-operand : missing (source g m pc op z .got) ≡ accessAll m (operandAt g m pc op z)
-    unfolding source value
+    missing-operand : missing (value g m pc (named op) z) ≡ accessAll m (operandAt g m pc op z)
+    unfolding value
     missing-operand = missing-at g z (extensionOf pc op z) (locate g m pc (named op) z) (locate-made g pc (named op) z)
 
-    pub source-made : (k : List Wanted) (f : ℕ → Change) → ((v : ℕ) → Made m k (f v)) → Made m (operandAt g m pc op z ++ k) (reading (source g m pc op z .got) f)
-    source-made k f h = reading-made (operandAt g m pc op z) k (source g m pc op z .got) f missing-operand h
-
-    pub source-only : (f : ℕ → Change) → ((v : ℕ) → Made m [] (f v)) → Made m (operandAt g m pc op z) (reading (source g m pc op z .got) f)
-    source-only f h = reading-only (operandAt g m pc op z) (source g m pc op z .got) f missing-operand h
-
-    -- it is written
     pub destination-found : nowhere (destination g m pc op z .place) ≡ accessAll m (extensionOf pc op z)
     unfolding destinationOf
     destination-found = locate-made g pc (named op) z
-
-    -- it is read and written
-    pub destination-made : (f : ℕ → Change) → ((v : ℕ) → nowhere (destination g m pc op z .place) ≡ Taken → Made m [] (f v))
-        → Made m (operandAt g m pc op z) (reading (fetch g m (destination g m pc op z .place) z) f)
-    unfolding destinationOf
-    destination-made f h = fetch-made g z (extensionOf pc op z) (locate g m pc (named op) z) f (locate-made g pc (named op) z) h
 
   -- a data register takes no access
   pub of-data : (g : List ℕ) (pc op : ℕ) (z : Size) → op / 8 % 8 ≡ 0 → operandAt g m pc op z ≡ []
@@ -320,29 +273,134 @@ module _ (m : Memory) where
     pub control-missed : (op : ℕ) → unreached (control g m pc (named op)) ≡ accessAll m (controlAt g m pc op)
     control-missed op = operand-reached (named op)
 
-  pub reaching-made : (sr at : ℕ) (l : List Wanted) (got : Reached) (f : ℕ → Change) → unreached got ≡ accessAll m l → ((a : ℕ) → Made m [] (f a)) → Made m l (reaching sr at got f)
-  reaching-made sr at l (At (Value a)) f e h = rw (← e) (h a)
-  reaching-made sr at l (At (NoValue x)) f e h = rw (← e) (refused-number x)
-  reaching-made sr at l NoAddress f e h = rw (← e) (illegal-made m at sr)
+-- ---- what the parts do
 
--- ---- the rows of a line, k being the number of the first: each makes its accesses, or is one that P excuses
+module _ (at sr : ℕ) (m : Memory) where
+  abbrev Makes : List Wanted → Effect → Change → Type 0
+  Makes l e c = Made at sr m l e c
 
-pub data Listed (m : Memory) (P : ℕ → Type 0) : ℕ → List (List Wanted) → List Change → Type 0 where
-  end : {k : ℕ} → Listed m P k [] []
-  row : {k : ℕ} {ls : List (List Wanted)} {cs : List Change} (l : List Wanted) (c : Change) → Made m l c → Listed m P (suc k) ls cs → Listed m P k (l ∷ ls) (c ∷ cs)
-  out : {k : ℕ} {ls : List (List Wanted)} {cs : List Change} (l : List Wanted) (c : Change) → P k → Listed m P (suc k) ls cs → Listed m P k (l ∷ ls) (c ∷ cs)
+  pub cond-made : (b : Bool) (l k : List Wanted) (e f : Effect) (x y : Change) → Makes l e x → Makes k f y → Makes (cond b l k) (cond b e f) (cond b x y)
+  cond-made true l k e f x y p q = p
+  cond-made false l k e f x y p q = q
 
-pub listed : {m : Memory} {P : ℕ → Type 0} {k : ℕ} {ls : List (List Wanted)} {cs : List Change} → Listed m P k ls cs
-    → (i : ℕ) (l : List Wanted) (c : Change) → Made m l c → P (k + i) ⊎ Made m (getD ls i l) (getD cs i c)
-listed end i l c e = inr e
-listed (row l′ c′ f h) zero l c e = inr f
-listed {k = k} (row l′ c′ f h) (suc i) l c e = rw (add-suc k i, ← suc-add k i) (listed h i l c e)
-listed (out l′ c′ p h) zero l c e = inl (rw add-zero p)
-listed {k = k} (out l′ c′ p h) (suc i) l c e = rw (add-suc k i, ← suc-add k i) (listed h i l c e)
+  -- the same accesses either way
+  pub either-made : (b : Bool) (l : List Wanted) (e f : Effect) (x y : Change) → Makes l e x → Makes l f y → Makes l (cond b e f) (cond b x y)
+  either-made true l e f x y p q = p
+  either-made false l e f x y p q = q
 
-abbrev pub None : ℕ → Type 0
-None n = ⊥
+  -- the same effect either way
+  pub either-reads : (b : Bool) (l k : List Wanted) (e : Effect) (x y : Change) → Makes l e x → Makes k e y → Makes (cond b l k) e (cond b x y)
+  either-reads true l k e x y p q = p
+  either-reads false l k e x y p q = q
 
-pub all-made : {m : Memory} {ls : List (List Wanted)} {cs : List Change} → Listed m None 0 ls cs
-    → (i : ℕ) (l : List Wanted) (c : Change) → Made m l c → Made m (getD ls i l) (getD cs i c)
-all-made h i l c e = ⊎-elim (λ x. absurd x) (λ f. f) (listed h i l c e)
+  pub either-quiet : (b : Bool) (x y : Change) → quiet (x .action) ≡ true → quiet (y .action) ≡ true → Does at sr nothing (cond b x y)
+  either-quiet true x y p q = does-nothing p
+  either-quiet false x y p q = does-nothing q
+
+  -- a number is read, and the rest hangs on it
+  pub load-made : (a : ℕ) (z : Size) (k : List Wanted) (e : Effect) (f : ℕ → Change) → Makes k e (f (numberAt m a z)) → Makes (wanted a (bytes z) ∷ k) e (reading (load m a z) f)
+  unfolding load
+  load-made a z k e f h = by (access m a (bytes z)) h
+    where
+      by : (x : Access) → Makes k e (f (numberIn (found (storageOf m) z x)))
+          → Follows at sr (firstFault x (accessAll m k)) e (reading (found (storageOf m) z x) f)
+      by (Here p) h = h
+      by (Not x) h = refl
+
+  pub reading-made : (l k : List Wanted) (e : Effect) (got : Got) (f : ℕ → Change) → missing got ≡ accessAll m l → Makes k e (f (numberIn got)) → Makes (l ++ k) e (reading got f)
+  reading-made l k e (Value v) f p h = rw (all-both m l k, ← p) h
+  reading-made l k e (NoValue x) f p h = rw (all-both m l k, ← p)
+
+  -- and no more than that
+  pub reading-only : (l : List Wanted) (e : Effect) (got : Got) (f : ℕ → Change) → missing got ≡ accessAll m l → Does at sr e (f (numberIn got)) → Makes l e (reading got f)
+  reading-only l e (Value v) f p h = rw (← p) h
+  reading-only l e (NoValue x) f p h = rw (← p)
+
+  -- a value goes to a place that was looked for
+  pub put-made : (l : List Wanted) (g : List ℕ) (z : Size) (v : ℕ) (place : Place) (next codes : ℕ) (first second : Write)
+      → nowhere place ≡ accessAll m l → Makes l (toPlace place z v) (put g z v place (done next codes first second))
+  unfolding put done store
+  put-made l g z v (D r) next codes first second e = rw (← e) (does-nothing refl)
+  put-made l g z v (A r) next codes first second e = rw (← e) (does-nothing refl)
+  put-made l g z v (M a) next codes first second e = rw (← e) (does-store refl)
+  put-made l g z v (I i) next codes first second e = rw (← e) (does-nothing refl)
+  put-made l g z v (NoPlace x) next codes first second e = rw (← e)
+
+  pub put-to-made : (l : List Wanted) (g : List ℕ) (codes : ℕ) (to : Destination) (z : Size) (v : ℕ)
+      → nowhere (to .place) ≡ accessAll m l → Makes l (toPlace (to .place) z v) (putTo g codes to z v)
+  unfolding putTo
+  put-to-made l g codes to z v e = put-made l g z v (to .place) (to .next) codes (to .moved) noWrite e
+
+  pub locating-made : (l : List Wanted) (e : Effect) (place : Place) (c : Change) → nowhere place ≡ accessAll m l → Does at sr e c → Makes l e (locating place c)
+  locating-made l e (D r) c p h = rw (← p) h
+  locating-made l e (A r) c p h = rw (← p) h
+  locating-made l e (M a) c p h = rw (← p) h
+  locating-made l e (I v) c p h = rw (← p) h
+  locating-made l e (NoPlace x) c p h = rw (← p)
+
+  -- what stands at a place that was looked for is read, and then it is written, or something else is done
+  module _ (g : List ℕ) (z : Size) (l : List Wanted) where
+    nowhere-fetched : (x : Fault) (f : ℕ → Change) → reading (fetch g m (NoPlace x) z) f ≡ refused x
+    unfolding fetch
+    nowhere-fetched x f = refl
+
+    fetch-made : (place : Place) (e : Effect) (f : ℕ → Change) → nowhere place ≡ accessAll m l
+        → (nowhere place ≡ Taken → Does at sr e (f (numberIn (fetch g m place z))))
+        → Makes (l ++ own place z) e (reading (fetch g m place z) f)
+    fetch-made (D r) e f p h = reading-only (l ++ own (D r) z) e (fetch g m (D r) z) f (missing-at m g z l (D r) p) (h refl)
+    fetch-made (A r) e f p h = reading-only (l ++ own (A r) z) e (fetch g m (A r) z) f (missing-at m g z l (A r) p) (h refl)
+    fetch-made (M a) e f p h = reading-only (l ++ own (M a) z) e (fetch g m (M a) z) f (missing-at m g z l (M a) p) (h refl)
+    fetch-made (I v) e f p h = reading-only (l ++ own (I v) z) e (fetch g m (I v) z) f (missing-at m g z l (I v) p) (h refl)
+    fetch-made (NoPlace x) e f p h = rw (all-both m l [], ← p) (nowhere-fetched x f)
+
+  -- ---- the operand that a word names
+
+  module _ (g : List ℕ) (pc op : ℕ) (z : Size) where
+    pub source-made : (k : List Wanted) (e : Effect) (f : ℕ → Change) → Makes k e (f (operandValue g at sr m op pc z)) → Makes (operandAt g m pc op z ++ k) e (reading (source g m pc op z .got) f)
+    unfolding source
+    source-made k e f h = reading-made (operandAt g m pc op z) k e (value g m pc (named op) z) f (missing-operand m g pc op z) h
+
+    pub source-only : (e : Effect) (f : ℕ → Change) → Does at sr e (f (operandValue g at sr m op pc z)) → Makes (operandAt g m pc op z) e (reading (source g m pc op z .got) f)
+    unfolding source
+    source-only e f h = reading-only (operandAt g m pc op z) e (value g m pc (named op) z) f (missing-operand m g pc op z) h
+
+    -- it is read and written, or not written
+    pub destination-made : (e : Effect) (f : ℕ → Change) → (nowhere (destination g m pc op z .place) ≡ Taken → Does at sr e (f (operandValue g at sr m op pc z)))
+        → Makes (operandAt g m pc op z) e (reading (fetch g m (destination g m pc op z .place) z) f)
+    unfolding destinationOf value
+    destination-made e f h = fetch-made g z (extensionOf pc op z) (locate g m pc (named op) z) e f (locate-made m g pc (named op) z) h
+
+    -- what f makes of it goes back to it
+    pub updating-made : (f : ℕ → Result) → Makes (operandAt g m pc op z) (updates g at sr m op pc z λ v. f v .value) (updating g m pc op z f)
+    unfolding destinationOf value
+    updating-made f = destination-made _ _ (λ found. put-to-made [] g _ (destination g m pc op z) z _ found)
+
+  pub reaching-made : (l : List Wanted) (e : ℕ → Effect) (got : Reached) (f : ℕ → Change) → unreached got ≡ accessAll m l → ((a : ℕ) → Does at sr (e a) (f a)) → Makes l (atAddress at got e) (reaching sr at got f)
+  reaching-made l e (At (Value a)) f p h = rw (← p) (h a)
+  reaching-made l e (At (NoValue x)) f p h = rw (← p)
+  reaching-made l e NoAddress f p h = rw (← p) (illegal-does at sr)
+
+  -- ---- the rows of a line, k being the number of the first: each makes its accesses and has its effect, or is one that P excuses
+
+  pub data Listed (P : ℕ → Type 0) : ℕ → List (List Wanted) → List Effect → List Change → Type 0 where
+    end : {k : ℕ} → Listed P k [] [] []
+    row : {k : ℕ} {ls : List (List Wanted)} {es : List Effect} {cs : List Change} (l : List Wanted) (e : Effect) (c : Change) → Makes l e c → Listed P (suc k) ls es cs
+        → Listed P k (l ∷ ls) (e ∷ es) (c ∷ cs)
+    out : {k : ℕ} {ls : List (List Wanted)} {es : List Effect} {cs : List Change} (l : List Wanted) (e : Effect) (c : Change) → P k → Listed P (suc k) ls es cs
+        → Listed P k (l ∷ ls) (e ∷ es) (c ∷ cs)
+
+  pub listed : {P : ℕ → Type 0} {k : ℕ} {ls : List (List Wanted)} {es : List Effect} {cs : List Change} → Listed P k ls es cs
+      → (i : ℕ) (l : List Wanted) (e : Effect) (c : Change) → Makes l e c → P (k + i) ⊎ Makes (getD ls i l) (getD es i e) (getD cs i c)
+  listed end i l e c h = inr h
+  listed (row l′ e′ c′ f r) zero l e c h = inr f
+  listed {k = k} (row l′ e′ c′ f r) (suc i) l e c h = rw (add-suc k i, ← suc-add k i) (listed r i l e c h)
+  listed (out l′ e′ c′ p r) zero l e c h = inl (rw add-zero p)
+  listed {k = k} (out l′ e′ c′ p r) (suc i) l e c h = rw (add-suc k i, ← suc-add k i) (listed r i l e c h)
+
+  abbrev pub None : ℕ → Type 0
+  None n = ⊥
+
+  -- a number that is none of the line's rows is illegal
+  pub all-made : {ls : List (List Wanted)} {es : List Effect} {cs : List Change} → Listed None 0 ls es cs
+      → (i : ℕ) → Makes (getD ls i []) (getD es i (illegalWord at)) (getD cs i (illegal at sr))
+  all-made h i = ⊎-elim (λ x. absurd x) (λ f. f) (listed h i [] (illegalWord at) (illegal at sr) (illegal-does at sr))

@@ -30,11 +30,11 @@ use Rattle.manual.specs.Differences.{vectorPlace}
 use Rattle.manual.specs.Change.{notCarried, refuse}
 use Rattle.manual.specs.Exceptions.{setSr, handlerSr, pcPlace, framePlace, entered, returned}
 use Rattle.instructions.specs.Perform.{statusPushed, act, perform}
-use Rattle.demands.specs.Accesses.{Wanted, wanted, Inside, Outside, SomeOutside, this, another, entryAt, returnAt, manyLongs, leaves}
+use Rattle.demands.specs.Accesses.{Wanted, wanted, Inside, Outside, SomeOutside, this, another, entryAt, returnAt, manyLongs}
 use Rattle.demands.specs.AccessLaws.{taken-or-not, fault-number, accessing-all, loading-all, taking-all}
 use Rattle.demands.specs.FirstReplies.{first-1, first-2, first-of}
-use Rattle.demands.specs.PartLaws.{refusing, accessAll, numberOr, some-outside}
-use Rattle.demands.specs.Exact.{numbered, TooLong, Usable, Ready, vectorOf, OneOf}
+use Rattle.demands.specs.PartLaws.{accessAll, numberOr, some-outside}
+use Rattle.demands.specs.Exact.{numbered, TooLong, Usable, Ready, OneOf}
 
 -- ---- equivalences
 
@@ -255,7 +255,7 @@ module _ (given s : Cpu) (m : Memory) where
       refl
 
   many-all : (n regs a : ℕ) → accessMany n m regs a ≡ accessAll m (manyLongs n regs a)
-  unfolding accessMany
+  unfolding accessMany manyLongs
   many-all zero regs a = refl
   many-all (suc n) regs a = by (eqb (regs % 2) 1) (many-all n (regs / 2) (plus a 4)) (many-all n (regs / 2) a)
     where
@@ -266,118 +266,9 @@ module _ (given s : Cpu) (m : Memory) where
       by true p q = ap (firstFault (access m a 4)) p
       by false p q = q
 
-  many-answers : (regs a : ℕ) (o : Outcome) → numbered o ≡ 0 → Answers m (manyLongs 16 regs a) (taking given m (accessMany 16 m regs a) o)
+  pub many-answers : (regs a : ℕ) (o : Outcome) → numbered o ≡ 0 → Answers m (manyLongs 16 regs a) (taking given m (accessMany 16 m regs a) o)
   many-answers regs a o h = number-taking given m (accessMany 16 m regs a) o h ∙ ap (λ (x : Stored). numberOr x 0) (many-all 16 regs a)
-
-  -- what an action answers: the first fault of its accesses, else its own refusal, if it is one
-  act-number : (a : Action) → numbered (act given s a m) ≡ numberOr (accessAll m (leaves s a)) (refusing a)
-  unfolding refusal statusPushed
-  act-number Nothing = refl
-  act-number (Store a z v) = store-answers given m a z _ refl
-  act-number (StoreMany regs a) = many-answers regs a _ refl
-  act-number (LoadMany regs a) = many-answers regs a _ refl
-  act-number (Enter vector pc) = entered-answers given s _ vector pc m
-  act-number Return = returned-answers
-  act-number (Status v) = refl
-  act-number (Stop v) = refl
-  act-number (PushStatus v) = store-answers given m (minus (addressOf (s .r) 7) 4) Long _ refl
-  act-number Halt = refl
-  act-number (SetOther v) = refl
-  act-number (Accumulate i scale sub x y) = refl
-  act-number (SetAcc i v) = refl
-  act-number (SetExt i v) = refl
-  act-number (SetMacsr v) = refl
-  act-number (SetMask v) = refl
-  act-number (CopyAcc from to) = refl
-  act-number (ClearAcc i) = refl
-  act-number (Refuse n) = refl
-
--- an action that is a refusal makes no access
-pub refusal-leaves : (s : Cpu) (a : Action) → (refusing a ≡ 0 → ⊥) → leaves s a ≡ []
-refusal-leaves s Nothing n = refl
-refusal-leaves s (Store a z v) n = absurd (n refl)
-refusal-leaves s (StoreMany regs a) n = absurd (n refl)
-refusal-leaves s (LoadMany regs a) n = absurd (n refl)
-refusal-leaves s (Enter vector pc) n = absurd (n refl)
-refusal-leaves s Return n = absurd (n refl)
-refusal-leaves s (Status v) n = refl
-refusal-leaves s (Stop v) n = refl
-refusal-leaves s (PushStatus v) n = absurd (n refl)
-refusal-leaves s Halt n = refl
-refusal-leaves s (SetOther v) n = refl
-refusal-leaves s (Accumulate i scale sub x y) n = refl
-refusal-leaves s (SetAcc i v) n = refl
-refusal-leaves s (SetExt i v) n = refl
-refusal-leaves s (SetMacsr v) n = refl
-refusal-leaves s (SetMask v) n = refl
-refusal-leaves s (CopyAcc from to) n = refl
-refusal-leaves s (ClearAcc i) n = refl
-refusal-leaves s (Refuse r) n = refl
-
-pub perform-number : (s : Cpu) (c : Change) (m : Memory) → numbered (perform s c m) ≡ numberOr (accessAll m (leaves (applied s c) (c .action))) (refusing (c .action))
-unfolding perform
-perform-number s c m = act-number s (applied s c) m (c .action)
 
 pub perform-5 : (s : Cpu) (m : Memory) → numbered (perform s notCarried m) ≡ 5
 unfolding perform notCarried refuse refusal
 perform-5 s m = refl
-
--- and that leaves no access
-pub left-by-5 : (s : Cpu) (m : Memory) → accessAll m (leaves (applied s notCarried) (notCarried .action)) ≡ Taken
-unfolding notCarried refuse
-left-by-5 s m = refl
-
--- ---- the vector that an outcome says: the action's, or 0 where it was refused
-
-abbrev Says : ℕ → Outcome → Type 0
-Says v o = numbered o ≡ 0 → o .stepped .vector ≡ v
-
-module _ (given s : Cpu) (m : Memory) where
-  fault-says : (v : ℕ) (x : Fault) → Says v (unchanged given (faultReply x) m)
-  unfolding refusal
-  fault-says v x e = absurd (fault-number x e)
-
-  entered-says : (level : Level) (vector pc : ℕ) → Says vector (entered given s level vector pc m)
-  unfolding entered
-  entered-says level vector pc =
-      let sp : ℕ = pointer given s level vector pc m in
-      accessing-all (Says vector) given m (fault-says vector) (access m (pcPlace sp) 4) _ λ high.
-      accessing-all (Says vector) given m (fault-says vector) (access m (framePlace sp) 4) _ λ low.
-      accessing-all (Says vector) given m (fault-says vector) (access m (vectorPlace (s .vbr) vector) 4) _ λ table.
-      λ e. refl
-
-  returned-says : Says 0 (returned given s m)
-  unfolding returned
-  returned-says =
-      loading-all (Says 0) given m (fault-says 0) (load m (addressOf (s .r) 7) Long) _ λ w.
-      loading-all (Says 0) given m (fault-says 0) (load m (plus (addressOf (s .r) 7) 4) Long) _ λ pc.
-      λ e. refl
-
-  taking-says : (x : Stored) (o : Outcome) → o .stepped .vector ≡ 0 → Says 0 (taking given m x o)
-  taking-says x o h = taking-all (Says 0) given m (fault-says 0) x o (λ e. h)
-
-  act-says : (a : Action) → Says (vectorOf a) (act given s a m)
-  unfolding statusPushed refusal
-  act-says Nothing = λ e. refl
-  act-says (Store a z v) = taking-says (storing m a z) _ refl
-  act-says (StoreMany regs a) = taking-says (accessMany 16 m regs a) _ refl
-  act-says (LoadMany regs a) = taking-says (accessMany 16 m regs a) _ refl
-  act-says (Enter vector pc) = entered-says _ vector pc
-  act-says Return = returned-says
-  act-says (Status v) = λ e. refl
-  act-says (Stop v) = λ e. refl
-  act-says (PushStatus v) = taking-says (storing m (minus (addressOf (s .r) 7) 4) Long) _ refl
-  act-says Halt = λ e. refl
-  act-says (SetOther v) = λ e. refl
-  act-says (Accumulate i scale sub x y) = λ e. refl
-  act-says (SetAcc i v) = λ e. refl
-  act-says (SetExt i v) = λ e. refl
-  act-says (SetMacsr v) = λ e. refl
-  act-says (SetMask v) = λ e. refl
-  act-says (CopyAcc from to) = λ e. refl
-  act-says (ClearAcc i) = λ e. refl
-  act-says (Refuse n) = λ e. refl
-
-pub perform-says : (s : Cpu) (c : Change) (m : Memory) → numbered (perform s c m) ≡ 0 → perform s c m .stepped .vector ≡ vectorOf (c .action)
-unfolding perform
-perform-says s c m = act-says s (applied s c) m (c .action)

@@ -39,7 +39,7 @@ pub same-pc : (s : Cpu) → withPc (s .pc) s ≡ s
 unfolding withPc
 same-pc s = refl
 
-coded-kept : (sr : ℕ) → coded sr (keptCodes sr) ≡ sr
+pub coded-kept : (sr : ℕ) → coded sr (keptCodes sr) ≡ sr
 unfolding coded keptCodes
 coded-kept sr = omega arith
 

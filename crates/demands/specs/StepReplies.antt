@@ -16,10 +16,9 @@ use Rattle.manual.specs.declared.Stored.{Stored}
 use Rattle.manual.specs.declared.Stored.the-variants.{Done as Taken, Fault as NotTaken}
 use Rattle.manual.specs.declared.Reply.the-variants.{Stopped}
 use Rattle.manual.specs.declared.Change.{Change}
-use Rattle.manual.specs.Registers.{applied}
 use Rattle.manual.specs.Memory.{Memory, access, taken, numberAt}
 use Rattle.manual.specs.Change.{done, jump, notCarried}
-use Rattle.manual.specs.Reply.{numberOf, isDone, Outcome, unchanged, refusal}
+use Rattle.manual.specs.Reply.{numberOf, isDone, Outcome, unchanged, refusal, faultReply}
 use Rattle.manual.specs.Admitted.{admitted}
 use Rattle.manual.specs.Lent.{Lent, memoryOf, lentOn, firstRefusal}
 use Rattle.rows.specs.TableLaws.{allBelow, below}
@@ -33,15 +32,17 @@ use Rattle.state.specs.FirstLaws.{first-admitted, first-kept}
 use Rattle.demands.specs.Refusals.{done-is}
 use Rattle.demands.specs.Runs.{runs}
 use Rattle.demands.specs.Admits.{admits}
-use Rattle.demands.specs.Accesses.{SomeOutside, reads0, reads4, reads, leaves, accesses, Wanted, wanted, Inside}
-use Rattle.demands.specs.PartLaws.{Made, accessAll, numberOr, some-outside, past-inside, both, all-both, refusing}
+use Rattle.demands.specs.Accesses.{SomeOutside, reads0, reads4, reads, Wanted, wanted, Inside}
+use Rattle.demands.specs.Effects.{Effect, effects0, effects4, effect, effectOf, putsOf, readsOf, places, accesses, vectorOf}
+use Rattle.demands.specs.PartLaws.{Follows, Made, accessAll, numberOr, some-outside, past-inside, both, all-both}
+use Rattle.demands.specs.EffectLaws.{Performs, performs}
 use Rattle.demands.specs.BodyLaws.{movecRead, movecWrite}
 use Rattle.demands.specs.AccessLaws.{word-lt, fault-number}
 use Rattle.demands.specs.FirstReplies.{first-1, first-2, first-of}
-use Rattle.demands.specs.InstructionLaws.{Excused, instruction-made, excused-refused, movec-read, movec-write, mac-fits, mac-row}
+use Rattle.demands.specs.InstructionLaws.{Excused, NotCarriedHere, instruction-made, excused-refused, movec-read, movec-write, mac-fits, mac-row}
 use Rattle.demands.specs.StepLaws.{doing, fetched, not-fetched, perform-refused, Stepped, stepped}
 use Rattle.demands.specs.ReplyLaws as laws
-use Rattle.demands.specs.Exact.{numbered, Bytes, TooLong, Usable, Ready, NotCarriedWord, line-8, movec, word-operand, vectorOf, OneOf}
+use Rattle.demands.specs.Exact.{numbered, Bytes, TooLong, Usable, Ready, NotCarriedWord, line-8, movec, word-operand, OneOf}
 
 -- ---- the words that are not carried
 
@@ -94,8 +95,11 @@ module _ (s : Cpu) (l : Lent) where
   abbrev own : List Wanted
   own = reads (s .r) (s .pc) m op (s .emac .mask)
 
+  abbrev does : Effect
+  does = effectOf s m
+
   abbrev done-then : List Wanted
-  done-then = leaves (applied s changing) (changing .action)
+  done-then = places (putsOf s does) ++ readsOf s does
 
   abbrev all : Stored
   all = accessAll m (accesses s m)
@@ -108,25 +112,32 @@ module _ (s : Cpu) (l : Lent) where
   unfolding accesses
   no-fetch x i = rw i
 
-  changing-kind : Inside m (s .pc) 2 → Kind (numbered (perform s changing m)) all
-  changing-kind i = rw (after-fetch i) (⊎-elim refused made (instruction-made (s .r) (s .pc) (s .sr) (s .other) (s .emac) m op))
+  -- where the reads' first fault is x and the effect's is y
+  record Meets (n : ℕ) (x y : Stored) : Type 0 where
+    number : n ≡ numberOr (both x y) 0
+    effect-had : n ≡ 0 → Performs s m does (perform s changing m)
+
+  changing-meets : Made (s .pc) (s .sr) m own does changing → Meets (numbered (perform s changing m)) (accessAll m own) (accessAll m done-then)
+  unfolding refusal
+  changing-meets = by (accessAll m own)
     where
-      refused : Excused (s .pc) m op × ((changing ≡ notCarried) × (accessAll m own ≡ Taken)) → Kind (numbered (perform s changing m)) (both (accessAll m own) (accessAll m done-then))
+      by : (x : Stored) → Follows (s .pc) (s .sr) x does changing → Meets (numbered (perform s changing m)) x (accessAll m done-then)
+      by Taken h = let p : Performs s m does (perform s changing m) = performs s m h in record { number = p .answers; effect-had = λ e. p }
+      by (NotTaken x) h =
+          let e : numbered (perform s changing m) ≡ numberOf (faultReply x) = ap (λ (c : Change). numbered (perform s c m)) h ∙ ap numbered (perform-refused s x m) in
+          record { number = e; effect-had = λ z. absurd (fault-number x (sym e ∙ z)) }
+
+  changing-kind : Inside m (s .pc) 2 → Kind (numbered (perform s changing m)) all
+  changing-kind i =
+      rw (after-fetch i)
+      (⊎-elim refused (λ h. inl (changing-meets h .number)) (instruction-made (s .r) (s .pc) (s .sr) (s .other) (s .emac) m op))
+    where
+      refused : NotCarriedHere (s .r) (s .pc) (s .sr) (s .other) (s .emac) m op → Kind (numbered (perform s changing m)) (both (accessAll m own) (accessAll m done-then))
       refused h =
           inr (
-            ap (λ (c : Change). numbered (perform s c m)) (h .1 .0) ∙ laws.perform-5 s m,
-            (ap (λ (x : Stored). both x (accessAll m done-then)) (h .1 .1) ∙ ap (λ (c : Change). accessAll m (leaves (applied s c) (c .action))) (h .1 .0) ∙ laws.left-by-5 s m, (i, h .0)),
+            ap (λ (c : Change). numbered (perform s c m)) (h .refused-5) ∙ laws.perform-5 s m,
+            (rw (h .inside-all, h .no-effect), (i, h .excused)),
           )
-
-      after : (x y : Stored) (n : ℕ) → n ≡ numberOr x 0 → ((n ≡ 0 → ⊥) → y ≡ Taken) → numberOr y n ≡ numberOr (both x y) 0
-      after Taken y n e k = rw e
-      after (NotTaken x) y n e k = ap (λ (z : Stored). numberOr z n) (k (λ z. fault-number x (sym e ∙ z))) ∙ e
-
-      made : Made m own changing → Kind (numbered (perform s changing m)) (both (accessAll m own) (accessAll m done-then))
-      made h =
-          inl
-          (laws.perform-number s changing m
-          ∙ after (accessAll m own) (accessAll m done-then) (refusing (changing .action)) h (λ n. ap (accessAll m) (laws.refusal-leaves (applied s changing) (changing .action) n)))
 
   acted-kind : Kind (numbered acted) all
   unfolding refusal
@@ -233,11 +244,20 @@ module _ (s : Cpu) (l : Lent) where
       (laws.iff-and laws.iff-same
       (rw inner-number (laws.iff-trans (laws.later 0 (numbered acted) 3 (λ h. omega arith) (s .stopped)) (laws.iff-and laws.iff-same (acted-0 bytes)))))
 
-  pub of-vector : numbered (step s l) ≡ 0 → step s l .stepped .vector ≡ vectorOf (changing .action)
-  of-vector e =
+  -- a step that is done has its row's effect
+  pub of-effect : numbered (step s l) ≡ 0 → Performs s m does (step s l)
+  of-effect e =
       let d : Stepped s l = stepped s l (done-is _ e) in
       let same : step s l ≡ perform s changing m = d .same ∙ ap (λ (c : Change). perform s c m) (fetched (s .r) (s .pc) (s .sr) (s .other) (s .emac) m op (d .fetch) refl) in
-      rw same (laws.perform-says s changing m (rw same at e))
+      let e′ : numbered (perform s changing m) ≡ 0 = ap numbered (sym same) ∙ e in
+      rw same
+      (⊎-elim
+      (λ h. absurd (omega (arith, sym (laws.perform-5 s m) ∙ ap (λ (c : Change). numbered (perform s c m)) (sym (h .refused-5)) ∙ e′)))
+      (λ h. changing-meets h .effect-had e′)
+      (instruction-made (s .r) (s .pc) (s .sr) (s .other) (s .emac) m op))
+
+  pub of-vector : numbered (step s l) ≡ 0 → step s l .stepped .vector ≡ vectorOf does
+  of-vector e = of-effect e .says e
 
   pub of-step : OneOf (0 ∷ 1 ∷ 2 ∷ 3 ∷ 4 ∷ 5 ∷ []) (numbered (step s l))
   unfolding step
@@ -266,11 +286,11 @@ bitrev-row : (r : ℕ) → r < 8 → rowOf (0x00C0 + r) ≡ firstRow 0
 bitrev-row r h = eqb→eq _ _ (below (λ r. eqb (rowOf (0x00C0 + r)) (firstRow 0)) 8 bitrev-rows r h)
 
 pub of-nop : (s : Cpu) (m : Memory) → numberAt m (s .pc) Word ≡ 0x4E71 → accesses s m ≡ wanted (s .pc) 2 ∷ []
-unfolding accesses reads reads4 instruction line4 nop jump done placeIn
+unfolding accesses reads reads4 effect effects4 placeIn
 of-nop s m e = rw (e, nop-row)
 
 pub of-bitrev : (s : Cpu) (m : Memory) (r : ℕ) → r < 8 → numberAt m (s .pc) Word ≡ 0x00C0 + r → accesses s m ≡ wanted (s .pc) 2 ∷ []
-unfolding accesses reads reads0 instruction line0 bitrev done placeIn
+unfolding accesses reads reads0 effect effects0 placeIn
 of-bitrev s m r h e =
     let line : (0x00C0 + r) / 0x1000 % 16 ≡ 0 = omega arith in
     rw (e, line, bitrev-row r h)
