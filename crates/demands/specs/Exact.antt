@@ -38,6 +38,7 @@ use Rattle.manual.specs.Image.{imageState, imageReply, loadImage}
 use Rattle.instructions.specs.Step.{instruction, step}
 use Rattle.instructions.specs.Run.{RunOutcome, run}
 use Rattle.block.specs.Typed.{Typed}
+use Rattle.demands.specs.Steps.{Steps}
 use Rattle.demands.specs.Accesses.{wanted, Inside, Outside, SomeOutside, entryAt, returnAt, accesses}
 
 -- the number of an outcome's reply
@@ -119,8 +120,9 @@ pub record Reply0 : Type 0 where
   pub step-vector : (s : Cpu) (l : Lent) → numbered (step s l) ≡ 0
       → let m : Memory = memoryOf l in
       step s l .stepped .vector ≡ vectorOf (instruction (s .r) (s .pc) (s .sr) (s .other) (s .emac) m (numberAt m (s .pc) Word) .action)
-  -- a run: as many steps as the budget says
-  pub run-0 : (budget : ℕ) (s : Cpu) (l : Lent) → (numberOf (run budget s l .ran .reply) ≡ 0) ↔ (Ready s l × (run budget s l .ran .count ≡ budget))
+  -- a run: as many steps as the budget says can be done, one after the other
+  pub run-0 : (budget : ℕ) (s : Cpu) (l : Lent)
+      → (numberOf (run budget s l .ran .reply) ≡ 0) ↔ (Ready s l × ((s′ : Cpu) × (l′ : Lent) × Steps budget s l s′ l′))
   pub exception-0 : (s : Cpu) (l : Lent) (vector pc : ℕ) (level : Level)
       → (numbered (exception s l vector pc level) ≡ 0) ↔ (Ready s l × ((levelTaken level ≡ true) × (SomeOutside (memoryOf l) (entryAt s level vector) → ⊥)))
   pub interrupt-0 : (s : Cpu) (l : Lent) (vector level : ℕ)

@@ -26,7 +26,8 @@ use Rattle.instructions.specs.Step.{step}
 use Rattle.instructions.specs.Run.{RunOutcome, run}
 use Rattle.instructions.specs.HostCalls.{Called, called, blockReply, blockRefused, blockAfter, onBlock, exceptionOn, interruptOn, rteOn, stepOn, runOn}
 use Rattle.demands.specs.Refusals.{NotZero, Unchanged, is-refused, refusals}
-use Rattle.demands.specs.Runs.{Steps, none, one-more, runs}
+use Rattle.demands.specs.Steps.{Steps, none, one-more}
+use Rattle.demands.specs.Runs.{runs}
 use Rattle.demands.specs.Admits.{admits}
 use Rattle.demands.specs.ReplyLaws as laws
 use Rattle.demands.specs.Exact.{OneOf, TooLong, Usable, numbered}

@@ -1,4 +1,5 @@
 pub mod Accesses
+pub mod Steps
 pub mod Exact
 pub mod AccessLaws
 pub mod FirstReplies
