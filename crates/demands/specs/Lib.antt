@@ -22,6 +22,7 @@ pub mod Host
 pub mod Handmade
 pub mod Followed
 pub mod Engines
+pub mod AdmittedMeans
 pub mod Admits
 pub mod Units
 pub mod Determined
