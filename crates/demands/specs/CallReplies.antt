@@ -21,7 +21,8 @@ use Rattle.manual.specs.EmacCalls.{accTold, doneWith, accChanged, accGetCall, a
 use Rattle.manual.specs.Block.{saysAdmitted, stateAt, notRead, readBlock, blockOf, Stored, storeBlock}
 use Rattle.manual.specs.Image.{imageMemory, imageState, imageReply, imageBudget, imageBytes, Image, image, notLoaded, loadImage}
 use Rattle.demands.specs.ReplyLaws as laws
-use Rattle.demands.specs.Exact.{OneOf}
+use Rattle.demands.specs.Exact.{OneOf, BlockForm, OutOfRanges}
+use Rattle.demands.specs.BlockRanges.{of-block}
 
 -- ---- the calls on the state alone
 
@@ -186,11 +187,13 @@ module _ (b : List ℕ) where
       (laws.iff-trans (four-8 (ltb (length b) 5) (eqb (valueAt b 0 1) 1) (eqb (length b) 128 && eqb (valueAt b 1 4) 123) (saysAdmitted b))
       (laws.iff-and (laws.iff-not-lt (length b) 5) (laws.iff-not-eq (valueAt b 0 1) 1)))
 
-  pub of-read-2 : (numberOf (readBlock b .reply) ≡ 2) ↔ ((5 ≤ length b) × ((valueAt b 0 1 ≡ 1) × (((length b ≡ 128) × (valueAt b 1 4 ≡ 123)) × (saysAdmitted b ≡ false))))
+  pub of-read-2 : (numberOf (readBlock b .reply) ≡ 2) ↔ (BlockForm b × OutOfRanges b)
   of-read-2 =
       rw read-number
       (laws.iff-trans (four-2 (ltb (length b) 5) (eqb (valueAt b 0 1) 1) (eqb (length b) 128 && eqb (valueAt b 1 4) 123) (saysAdmitted b))
-      (laws.iff-and (laws.iff-not-lt (length b) 5) (laws.iff-and (laws.iff-eq (valueAt b 0 1) 1) (laws.iff-and right-length laws.iff-same))))
+      (laws.iff-trans
+      (laws.iff-and (laws.iff-not-lt (length b) 5) (laws.iff-and (laws.iff-eq (valueAt b 0 1) 1) (laws.iff-and right-length (of-block b))))
+      (λ h. ((h .1 .1 .0 .0, h .1 .0, h .1 .1 .0 .1), h .1 .1 .1), λ h. (omega (arith, h .0 .0), (h .0 .1, ((h .0 .0, h .0 .2), h .1))))))
 
   pub read-of : OneOf (0 ∷ 2 ∷ 8 ∷ 9 ∷ []) (numberOf (readBlock b .reply))
   read-of = laws.same-of (0 ∷ 2 ∷ 8 ∷ 9 ∷ []) read-number (four-of (ltb (length b) 5) (eqb (valueAt b 0 1) 1) (eqb (length b) 128 && eqb (valueAt b 1 4) 123) (saysAdmitted b))

@@ -12,7 +12,7 @@
 --   9  block or file: wrong length
 --
 -- Order: 9 when under five bytes, 8, 9, then 1, 2, 6, 7, 3, and then in the order the step comes to them. Assumes nothing.
-use Prim.Native.Nat.{ℕ, _+_, _/_, _%_, _≤_, _<_}
+use Prim.Native.Nat.{ℕ, _+_, _-_, _*_, _/_, _%_, _^_, _≤_, _<_}
 use mathlib.Core.Path.{_≡_}
 use mathlib.Core.Bool.{true, false}
 use mathlib.Core.List.{List, [], _∷_}
@@ -33,7 +33,7 @@ use Rattle.manual.specs.Admitted.{admitted}
 use Rattle.manual.specs.Lent.{Lent, memoryOf, lentOn, lentRefusal, firstRefusal}
 use Rattle.manual.specs.Exceptions.{levelTaken, masked, exception, interrupt, rte, push32, pop32, setSrCall, ipl, supervisorCall}
 use Rattle.manual.specs.EmacCalls.{accGetCall, accSetCall, accPhysCall, setAccPhysCall, setMacsrCall}
-use Rattle.manual.specs.Block.{saysAdmitted, readBlock, storeBlock}
+use Rattle.manual.specs.Block.{readBlock, storeBlock}
 use Rattle.manual.specs.Image.{imageState, imageReply, loadImage}
 use Rattle.instructions.specs.Step.{instruction, step}
 use Rattle.instructions.specs.Run.{RunOutcome, run}
@@ -215,12 +215,29 @@ pub record Reply7 : Type 0 where
       → (numbered (interrupt s l vector level) ≡ 7) ↔ (Ready s l × ((level < 7) × (level ≤ s .sr / 0x100 % 8)))
 
 -- a block has 128 bytes, of which the first is 1 and the next four say 123
+abbrev pub BlockForm : List ℕ → Type 0
+BlockForm b = (length b ≡ 128) × (valueAt b 0 1 ≡ 1) × (valueAt b 1 4 ≡ 123)
+
+-- MACSR says unsigned integers: FI, 0x20, is clear and SU, 0x40, is set
+abbrev pub UnsignedMode : ℕ → Type 0
+UnsignedMode macsr = (macsr / 0x20 % 2 ≡ 0) × (macsr / 0x40 % 2 ≡ 1)
+
+-- a number of 64 bits, in two's complement, is not in 0 to 2^48-1, or in the other modes not in -2^47 to 2^47-1
+abbrev pub NumberOut : ℕ → ℕ → Type 0
+NumberOut macsr n = (UnsignedMode macsr × (2 ^ 48 ≤ n)) ⊎ ((UnsignedMode macsr → ⊥) × ((2 ^ 47 ≤ n) × (n < 2 ^ 64 - 2 ^ 47)))
+
+-- SR, MACSR, the number of an accumulator or the last byte of a block is out of its range
+pub data OutOfRanges (b : List ℕ) : Type 0 where
+  sr-bit : (bitAnd (valueAt b 73 2) 0xB71F ≡ valueAt b 73 2 → ⊥) → OutOfRanges b
+  macsr-above : 0xFFF < valueAt b 87 4 → OutOfRanges b
+  number-out : (i : ℕ) → i < 4 → NumberOut (valueAt b 87 4) (valueAt b (95 + i * 8) 8) → OutOfRanges b
+  last-above : 1 < valueAt b 127 1 → OutOfRanges b
+
 pub record Reply8And9 : Type 0 where
   pub read-block-9 : (b : List ℕ)
       → (numberOf (readBlock b .reply) ≡ 9) ↔ ((length b < 5) ⊎ ((5 ≤ length b) × ((valueAt b 0 1 ≡ 1) × ((length b ≡ 128) × (valueAt b 1 4 ≡ 123) → ⊥))))
   pub read-block-8 : (b : List ℕ) → (numberOf (readBlock b .reply) ≡ 8) ↔ ((5 ≤ length b) × (valueAt b 0 1 ≡ 1 → ⊥))
-  pub read-block-2 : (b : List ℕ)
-      → (numberOf (readBlock b .reply) ≡ 2) ↔ ((5 ≤ length b) × ((valueAt b 0 1 ≡ 1) × (((length b ≡ 128) × (valueAt b 1 4 ≡ 123)) × (saysAdmitted b ≡ false))))
+  pub read-block-2 : (b : List ℕ) → (numberOf (readBlock b .reply) ≡ 2) ↔ (BlockForm b × OutOfRanges b)
   pub store-block-9 : (s : Cpu) (b : List ℕ) → (numberOf (storeBlock s b .reply) ≡ 9) ↔ (length b ≡ 128 → ⊥)
   pub store-block-2 : (s : Cpu) (b : List ℕ) → (numberOf (storeBlock s b .reply) ≡ 2) ↔ ((length b ≡ 128) × (admitted s ≡ false))
   -- an image file says how many bytes follow its first five: 14 to 49,166

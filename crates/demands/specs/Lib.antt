@@ -16,6 +16,7 @@ pub mod InstructionLaws
 pub mod ReplyLaws
 pub mod StepReplies
 pub mod EntryReplies
+pub mod BlockRanges
 pub mod CallReplies
 pub mod ExactLaws
 pub mod Host
