@@ -47,6 +47,8 @@ pub record AdmittedMeans : Type 0 where
   pub exactly : (s : Cpu)
       → (admitted s ≡ true)
       ↔ ((bitAnd (s .sr) 0xB71F ≡ s .sr) × (s .emac .macsr ≤ 0xFFF) × ((i : ℕ) → i < 4 → accOf (s .emac) i < 2 ^ 48))
+  -- a unit alone
+  pub unit : (e : Emac) → (emacAdmitted e ≡ true) ↔ ((e .macsr ≤ 0xFFF) × ((i : ℕ) → i < 4 → accOf e i < 2 ^ 48))
   -- the mode that MACSR says: FI is 0x20, SU is 0x40
   pub fi : (macsr : ℕ) → (modeOf macsr .fi ≡ true) ↔ (macsr / 0x20 % 2 ≡ 1)
   pub su : (macsr : ℕ) → (modeOf macsr .su ≡ true) ↔ (macsr / 0x40 % 2 ≡ 1)
@@ -136,6 +138,7 @@ su-is macsr = laws.iff-eq (macsr / 0x40 % 2) 1
 pub admitted-means : AdmittedMeans
 admitted-means = record {
   exactly = exactly;
+  unit = unit-is;
   fi = fi-is;
   su = su-is;
   in-range = λ k a h. rw (value-whole k a h) (number-in (k .fi) (k .su) a h);

@@ -31,7 +31,7 @@ use Rattle.manual.specs.Memory.{Storage, Memory, storageOf, valueAt, numberAt}
 use Rattle.manual.specs.Reply.{numberOf, isDone, Outcome}
 use Rattle.manual.specs.Admitted.{admitted}
 use Rattle.manual.specs.Lent.{Lent, memoryOf, lentOn, lentRefusal, firstRefusal}
-use Rattle.manual.specs.Exceptions.{levelTaken, masked, exception, interrupt, rte, push32, pop32, setSrCall, ipl, supervisorCall}
+use Rattle.manual.specs.Exceptions.{exception, interrupt, rte, push32, pop32, setSrCall, ipl, supervisorCall}
 use Rattle.manual.specs.EmacCalls.{accGetCall, accSetCall, accPhysCall, setAccPhysCall, setMacsrCall}
 use Rattle.manual.specs.Block.{readBlock, storeBlock}
 use Rattle.manual.specs.Image.{imageState, imageReply, loadImage}
@@ -110,6 +110,15 @@ vectorOf (CopyAcc from to) = 0
 vectorOf (ClearAcc i) = 0
 vectorOf (Refuse n) = 0
 
+-- the level of an entry: the mask is kept, or it is set to a level, which is at most 7
+abbrev pub LevelBelow8 : Level → Type 0
+LevelBelow8 Kept = Unit {0}
+LevelBelow8 (To level) = level < 8
+
+-- the mask, SR bits 10 to 8, lets a level through: level 7 always, a lower one above the mask
+abbrev pub LetThrough : ℕ → ℕ → Type 0
+LetThrough sr level = (7 ≤ level) ⊎ (sr / 0x100 % 8 < level)
+
 -- done: nothing stands against it. (Of the calls that make no access, 0 is what is left: NoOthers.)
 pub record Reply0 : Type 0 where
   pub step-0 : (s : Cpu) (l : Lent) → Bytes (l .storage)
@@ -124,10 +133,10 @@ pub record Reply0 : Type 0 where
   pub run-0 : (budget : ℕ) (s : Cpu) (l : Lent)
       → (numberOf (run budget s l .ran .reply) ≡ 0) ↔ (Ready s l × ((s′ : Cpu) × (l′ : Lent) × Steps budget s l s′ l′))
   pub exception-0 : (s : Cpu) (l : Lent) (vector pc : ℕ) (level : Level)
-      → (numbered (exception s l vector pc level) ≡ 0) ↔ (Ready s l × ((levelTaken level ≡ true) × (SomeOutside (memoryOf l) (entryAt s level vector) → ⊥)))
+      → (numbered (exception s l vector pc level) ≡ 0) ↔ (Ready s l × (LevelBelow8 level × (SomeOutside (memoryOf l) (entryAt s level vector) → ⊥)))
   pub interrupt-0 : (s : Cpu) (l : Lent) (vector level : ℕ)
       → (numbered (interrupt s l vector level) ≡ 0)
-      ↔ (Ready s l × ((level < 8) × ((masked (s .sr) level ≡ false) × (SomeOutside (memoryOf l) (entryAt s (To level) vector) → ⊥))))
+      ↔ (Ready s l × ((level < 8) × (LetThrough (s .sr) level × (SomeOutside (memoryOf l) (entryAt s (To level) vector) → ⊥))))
   pub rte-0 : (s : Cpu) (l : Lent) → (numbered (rte s l) ≡ 0) ↔ (Ready s l × (SomeOutside (memoryOf l) (returnAt s) → ⊥))
   pub push32-0 : (s : Cpu) (l : Lent) (v : ℕ) → (numbered (push32 s l v) ≡ 0) ↔ (Ready s l × Inside (memoryOf l) (minus (addressOf (s .r) 7) 4) 4)
   pub pop32-0 : (s : Cpu) (l : Lent) → (numberOf (pop32 s l .reply) ≡ 0) ↔ (Ready s l × Inside (memoryOf l) (addressOf (s .r) 7) 4)
@@ -168,10 +177,10 @@ pub record Reply3 : Type 0 where
 -- some access of the call is not inside. An entry stores two longs and reads the vector, a return reads two longs
 pub record Reply4 : Type 0 where
   pub exception-4 : (s : Cpu) (l : Lent) (vector pc : ℕ) (level : Level)
-      → (numbered (exception s l vector pc level) ≡ 4) ↔ (Ready s l × ((levelTaken level ≡ true) × SomeOutside (memoryOf l) (entryAt s level vector)))
+      → (numbered (exception s l vector pc level) ≡ 4) ↔ (Ready s l × (LevelBelow8 level × SomeOutside (memoryOf l) (entryAt s level vector)))
   pub interrupt-4 : (s : Cpu) (l : Lent) (vector level : ℕ)
       → (numbered (interrupt s l vector level) ≡ 4)
-      ↔ (Ready s l × ((level < 8) × ((masked (s .sr) level ≡ false) × SomeOutside (memoryOf l) (entryAt s (To level) vector))))
+      ↔ (Ready s l × ((level < 8) × (LetThrough (s .sr) level × SomeOutside (memoryOf l) (entryAt s (To level) vector))))
   pub rte-4 : (s : Cpu) (l : Lent) → (numbered (rte s l) ≡ 4) ↔ (Ready s l × SomeOutside (memoryOf l) (returnAt s))
   pub push32-4 : (s : Cpu) (l : Lent) (v : ℕ) → (numbered (push32 s l v) ≡ 4) ↔ (Ready s l × Outside (memoryOf l) (minus (addressOf (s .r) 7) 4) 4)
   pub pop32-4 : (s : Cpu) (l : Lent) → (numberOf (pop32 s l .reply) ≡ 4) ↔ (Ready s l × Outside (memoryOf l) (addressOf (s .r) 7) 4)
