@@ -128,3 +128,10 @@ module _ (b : List ℕ) where
 
   pub of-block : (saysAdmitted b ≡ false) ↔ OutOfRanges b
   of-block = laws.iff-trans fails (to-block, from-block)
+
+  pub in-ranges : (saysAdmitted b ≡ true) ↔ (OutOfRanges b → ⊥)
+  in-ranges = by (saysAdmitted b) of-block
+    where
+      by : (t : Bool) → ((t ≡ false) ↔ OutOfRanges b) → (t ≡ true) ↔ (OutOfRanges b → ⊥)
+      by true e = (λ h x. false≢true (sym (e .1 x)), λ n. refl)
+      by false e = (λ h. absurd (false≢true h), λ n. absurd (n (e .0 refl)))

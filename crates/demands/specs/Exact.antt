@@ -247,6 +247,8 @@ pub record Reply8And9 : Type 0 where
       → (numberOf (readBlock b .reply) ≡ 9) ↔ ((length b < 5) ⊎ ((5 ≤ length b) × ((valueAt b 0 1 ≡ 1) × ((length b ≡ 128) × (valueAt b 1 4 ≡ 123) → ⊥))))
   pub read-block-8 : (b : List ℕ) → (numberOf (readBlock b .reply) ≡ 8) ↔ ((5 ≤ length b) × (valueAt b 0 1 ≡ 1 → ⊥))
   pub read-block-2 : (b : List ℕ) → (numberOf (readBlock b .reply) ≡ 2) ↔ (BlockForm b × OutOfRanges b)
+  -- so it is read, with 0, exactly when it has the form and no number is out of its range
+  pub read-block-0 : (b : List ℕ) → (numberOf (readBlock b .reply) ≡ 0) ↔ (BlockForm b × (OutOfRanges b → ⊥))
   pub store-block-9 : (s : Cpu) (b : List ℕ) → (numberOf (storeBlock s b .reply) ≡ 9) ↔ (length b ≡ 128 → ⊥)
   pub store-block-2 : (s : Cpu) (b : List ℕ) → (numberOf (storeBlock s b .reply) ≡ 2) ↔ ((length b ≡ 128) × (admitted s ≡ false))
   -- an image file says how many bytes follow its first five: 14 to 49,166
