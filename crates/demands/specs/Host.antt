@@ -175,7 +175,7 @@ module _ (l : Lent) (inner : ℕ) (few : inner ≤ 7) (one : (inner ≡ 1) ↔ T
 
 -- ---- the answers
 
-number-small : (n : Reply) → numberOf n ≤ 9
+pub number-small : (n : Reply) → numberOf n ≤ 9
 number-small Done = omega arith
 number-small Long = omega arith
 number-small NotAdmitted = omega arith
@@ -349,7 +349,7 @@ module _ (b : List ℕ) where
   replied = numberOf (readBlock b .reply)
 
   -- a block that is read holds the state that its bytes say
-  says : replied ≡ 0 → readBlock b .cpu ≡ stateAt b
+  pub says : replied ≡ 0 → readBlock b .cpu ≡ stateAt b
   unfolding readBlock
   says = by (ltb (length b) 5) (eqb (valueAt b 0 1) 1) (eqb (length b) 128 && eqb (valueAt b 1 4) 123) (saysAdmitted b)
     where

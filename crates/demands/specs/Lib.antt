@@ -27,3 +27,4 @@ pub mod AdmittedMeans
 pub mod Admits
 pub mod Units
 pub mod Determined
+pub mod HostSentences
