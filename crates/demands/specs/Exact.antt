@@ -2,7 +2,7 @@
 --
 --   0  done; a step also gives the vector it entered, or 0
 --   1  memory too long
---   2  state not admitted
+--   2  state not admitted (AdmittedMeans says which are)
 --   3  state stopped (step; run with budget left)
 --   4  an access this call makes is not inside (those of a step are listed in Accesses)
 --   5  line 8; 0x4E7A, 0x4E7B; EMAC word operand

@@ -2,7 +2,8 @@
 --
 -- A run of budget n steps until n are done (reply 0) or one is refused (that reply). Its count, state and memory are those of that
 -- many steps, each of them done; a run that stops early stops at the first step that is refused. Replies 1 and 2 come first at
--- every budget, with count 0 and the state and memory as given. Memory stays as long as it was, and its bytes stay bytes. Assumes nothing.
+-- every budget, with count 0 and the state and memory as given. Budget 0 otherwise gives 0 and count 0. Steps that can be done one
+-- after the other have one end, and a run does them. Memory stays as long as it was, and its bytes stay bytes. Assumes nothing.
 use Prim.Native.Nat.{ℕ, zero, suc, _+_, _/_, _%_, _<_}
 use mathlib.Core.Path.{_≡_, refl, sym, ap, _∙_}
 use mathlib.Core.Bool.{Bool, true, false, cond}
