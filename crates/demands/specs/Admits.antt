@@ -1,17 +1,12 @@
 -- Every call given an admitted state returns one. Document: "A state is admitted when .. Every call keeps this."
 --
--- What is admitted, in the document's words: SR has no bit outside 0xB71F, MACSR is at most 0xFFF, and each accumulator's number is in
--- the range of its mode, 0 to 2^48-1 with FI clear and SU set, and -2^47 to 2^47-1 otherwise. Assumes nothing.
-use Prim.Native.Nat.{ℕ, zero, suc, _+_, _-_, _^_, _≤_, _<_}
-use mathlib.Core.Path.{_≡_, refl, sym, _∙_}
+-- AdmittedMeans says what an admitted state is. Assumes nothing.
+use Prim.Native.Nat.{ℕ, zero, suc, _+_, _^_, _<_}
+use mathlib.Core.Path.{_≡_, refl}
 use mathlib.Core.Bool.{Bool, true, false, cond, _&&_, false≢true}
 use mathlib.Core.List.{List}
-use native.Mathlib.Omega.{arith}
-use lib.Bits.{bitAnd}
 use lib.Dec.{ltb, leb, eqb}
-use lib.IntN.{ℤ, pos}
 use lib.ListN.{length}
-use borrow.Author.Tests.{lt-ltb}
 use Rattle.manual.specs.declared.Cpu.{Cpu}
 use Rattle.manual.specs.declared.Level.{Level}
 use Rattle.manual.specs.declared.Level.the-variants.{Kept, To}
@@ -23,41 +18,26 @@ use Rattle.manual.specs.declared.Answer.{Answer}
 use Rattle.manual.specs.declared.Action.{Action}
 use Rattle.manual.specs.declared.Action.the-variants.{Nothing, Store, StoreMany, LoadMany, Enter, Return, Status, Stop, PushStatus, Halt, SetOther, Accumulate, SetAcc, SetExt, SetMacsr, SetMask, CopyAcc, ClearAcc, Refuse}
 use Rattle.manual.specs.declared.Change.{Change}
-use Rattle.manual.specs.declared.Mode.{Mode}
-use Rattle.manual.specs.Word.{minus, signedAt, inHalf}
+use Rattle.manual.specs.Word.{minus}
 use Rattle.manual.specs.Registers.{addressOf, withAddress, applied}
 use Rattle.manual.specs.Memory.{Storage, Memory, valueAt, load, storing, accessMany}
-use Rattle.manual.specs.Emac.{modeOf, accOf, inRange, inWhole, unsigned}
+use Rattle.manual.specs.Emac.{accOf}
 use Rattle.manual.specs.EmacCalls.{accSetCall, setAccPhysCall, setMacsrCall}
 use Rattle.manual.specs.Reply.{Outcome, unchanged, isDone}
 use Rattle.manual.specs.Admitted.{status, admitted, emacAdmitted}
 use Rattle.manual.specs.Lent.{Lent, memoryOf, lentOn, firstRefusal, checked}
-use Rattle.manual.specs.Exceptions.{setSr, entered, returned, levelTaken, masked, exception, interrupt, rte, push32, notPopped, popped, pop32, setSrCall}
+use Rattle.manual.specs.Exceptions.{setSr, entered, levelTaken, masked, exception, interrupt, rte, push32, notPopped, popped, pop32, setSrCall}
 use Rattle.manual.specs.Block.{fresh, saysAdmitted, stateAt, notRead, readBlock}
 use Rattle.manual.specs.Image.{imageMemory, imageState, imageReply, imageBudget, imageBytes, Image, image, notLoaded, loadImage}
 use Rattle.instructions.specs.Perform.{statusPushed, act, perform}
 use Rattle.instructions.specs.Step.{execute, step}
 use Rattle.instructions.specs.Run.{RunOutcome, ended, afterOne, steps, run}
-use Rattle.word.specs.TestLaws.{by-lt}
-use Rattle.word.specs.SignedLaws.{signed-pos, signed-neg}
-use Rattle.state.specs.MaskLaws.{status-mask}
-use Rattle.state.specs.AdmittedLaws.{admitted-status, admitted-emac, registers-admitted, address-admitted, other-admitted, stopped-admitted, emac-admitted, applied-admitted, set-sr-admitted}
+use Rattle.state.specs.AdmittedLaws.{admitted-emac, registers-admitted, address-admitted, other-admitted, stopped-admitted, emac-admitted, applied-admitted, set-sr-admitted}
 use Rattle.exceptions.specs.EntryAdmitted.{refusal-admitted, taking-admitted, entered-admitted, returned-admitted}
 use Rattle.emac.specs.EmacKept as emac
 use Rattle.calls_emac.specs.CallsKept as calls
 
--- the number that all of a pattern stands for: of an admitted one nothing is cut to 48 bits
-abbrev pub whole : Mode → ℕ → ℤ
-whole k a = cond (unsigned k) (pos a) (signedAt (2 ^ 47) a)
-
--- what an admitted state is
-pub record Means (s : Cpu) : Type 0 where
-  pub sr-bits : bitAnd (s .sr) 0xB71F ≡ s .sr
-  pub macsr-bits : s .emac .macsr ≤ 0xFFF
-  pub in-range : (i : ℕ) → let k : Mode = modeOf (s .emac .macsr) in inRange k (whole k (accOf (s .emac) i)) ≡ true
-
 pub record Admits : Type 0 where
-  pub means : (s : Cpu) → s .sr < 2 ^ 16 → admitted s ≡ true → Means s
   pub by-step : (s : Cpu) (l : Lent) → admitted s ≡ true → admitted (step s l .stepped .cpu) ≡ true
   pub by-run : (budget : ℕ) (s : Cpu) (l : Lent) → admitted s ≡ true → admitted (run budget s l .ran .cpu) ≡ true
   pub by-exception : (s : Cpu) (l : Lent) (vector pc : ℕ) (level : Level) → admitted s ≡ true → admitted (exception s l vector pc level .stepped .cpu) ≡ true
@@ -235,23 +215,8 @@ load-admitted f m = by (eqb (length m) imageMemory) (isDone (imageReply f)) refl
     by true false e = fresh-admitted
     by false b e = fresh-admitted
 
-range : (k : Mode) (a : ℕ) → a < 2 ^ 48 → inRange k (whole k a) ≡ true
-range k a h = by (unsigned k)
-  where
-    by : (u : Bool) → cond u (inWhole (2 ^ 48) (cond u (pos a) (signedAt (2 ^ 47) a))) (inHalf (2 ^ 47) (cond u (pos a) (signedAt (2 ^ 47) a))) ≡ true
-    by true = lt-ltb a (2 ^ 48) h
-    by false = by-lt a (2 ^ 47) (λ l. rw (signed-pos (2 ^ 47) a l) (lt-ltb a (2 ^ 47) l)) (λ l. rw (signed-neg (2 ^ 47) a l) (lt-ltb (2 ^ 47 + 2 ^ 47 - suc a) (2 ^ 47) (omega arith)))
-
-means : (s : Cpu) → s .sr < 2 ^ 16 → admitted s ≡ true → Means s
-means s small h = record {
-  sr-bits = sym (status-mask (s .sr) small) ∙ admitted-status s h;
-  macsr-bits = omega (arith, emac.macsr-small (s .emac) (admitted-emac s h));
-  in-range = λ i. range (modeOf (s .emac .macsr)) (accOf (s .emac) i) (emac.acc-small (s .emac) (admitted-emac s h) i);
-}
-
 pub admits : Admits
 admits = record {
-  means = means;
   by-step = step-admitted;
   by-run = run-admitted;
   by-exception = λ s l vector pc level h. exception-admitted s l h vector pc level;

@@ -21,7 +21,8 @@ use Rattle.manual.specs.EmacCalls.{accTold, doneWith, accChanged, accGetCall, a
 use Rattle.manual.specs.Block.{saysAdmitted, stateAt, notRead, readBlock, blockOf, Stored, storeBlock}
 use Rattle.manual.specs.Image.{imageMemory, imageState, imageReply, imageBudget, imageBytes, Image, image, notLoaded, loadImage}
 use Rattle.demands.specs.ReplyLaws as laws
-use Rattle.demands.specs.Exact.{OneOf}
+use Rattle.demands.specs.Exact.{OneOf, BlockForm, OutOfRanges}
+use Rattle.demands.specs.BlockRanges.{of-block, in-ranges}
 
 -- ---- the calls on the state alone
 
@@ -142,13 +143,16 @@ module _ (a b c d : Bool) where
       (laws.iff-and laws.iff-same
       (laws.here-else 8 (cond c (cond d 0 2) 9) (laws.neither c (cond d 0 2) 9 8 (laws.neither d 0 2 8 (λ h. omega arith) (λ h. omega arith)) (λ h. omega arith)) b))
 
+  -- all but the last test hold
+  four-last : (k : ℕ) → (9 ≡ k → ⊥) → (8 ≡ k → ⊥) → (four a b c d ≡ k) ↔ ((a ≡ false) × ((b ≡ true) × ((c ≡ true) × (pick d 0 2 ≡ k))))
+  four-last k n9 n8 =
+      laws.iff-trans (laws.later k (cond b (cond c (cond d 0 2) 9) 8) 9 n9 a)
+      (laws.iff-and laws.iff-same
+      (laws.iff-trans (laws.later-else k (cond c (cond d 0 2) 9) 8 n8 b) (laws.iff-and laws.iff-same (laws.later-else k (cond d 0 2) 9 n9 c))))
+
   four-2 : (four a b c d ≡ 2) ↔ ((a ≡ false) × ((b ≡ true) × ((c ≡ true) × (d ≡ false))))
   four-2 =
-      laws.iff-trans (laws.later 2 (cond b (cond c (cond d 0 2) 9) 8) 9 (λ h. omega arith) a)
-      (laws.iff-and laws.iff-same
-      (laws.iff-trans (laws.later-else 2 (cond c (cond d 0 2) 9) 8 (λ h. omega arith) b)
-      (laws.iff-and laws.iff-same
-      (laws.iff-trans (laws.later-else 2 (cond d 0 2) 9 (λ h. omega arith) c) (laws.iff-and laws.iff-same (laws.here-else 2 0 (λ h. omega arith) d))))))
+      laws.iff-trans (four-last 2 (λ h. omega arith) (λ h. omega arith)) (laws.iff-and laws.iff-same (laws.iff-and laws.iff-same (laws.iff-and laws.iff-same (not-2 d))))
 
   four-of : OneOf (0 ∷ 2 ∷ 8 ∷ 9 ∷ []) (four a b c d)
   four-of =
@@ -186,11 +190,20 @@ module _ (b : List ℕ) where
       (laws.iff-trans (four-8 (ltb (length b) 5) (eqb (valueAt b 0 1) 1) (eqb (length b) 128 && eqb (valueAt b 1 4) 123) (saysAdmitted b))
       (laws.iff-and (laws.iff-not-lt (length b) 5) (laws.iff-not-eq (valueAt b 0 1) 1)))
 
-  pub of-read-2 : (numberOf (readBlock b .reply) ≡ 2) ↔ ((5 ≤ length b) × ((valueAt b 0 1 ≡ 1) × (((length b ≡ 128) × (valueAt b 1 4 ≡ 123)) × (saysAdmitted b ≡ false))))
-  of-read-2 =
+  -- the block has the right form, and the last test is left
+  of-read : (k : ℕ) → (9 ≡ k → ⊥) → (8 ≡ k → ⊥) → (numberOf (readBlock b .reply) ≡ k) ↔ (BlockForm b × (pick (saysAdmitted b) 0 2 ≡ k))
+  of-read k n9 n8 =
       rw read-number
-      (laws.iff-trans (four-2 (ltb (length b) 5) (eqb (valueAt b 0 1) 1) (eqb (length b) 128 && eqb (valueAt b 1 4) 123) (saysAdmitted b))
-      (laws.iff-and (laws.iff-not-lt (length b) 5) (laws.iff-and (laws.iff-eq (valueAt b 0 1) 1) (laws.iff-and right-length laws.iff-same))))
+      (laws.iff-trans (four-last (ltb (length b) 5) (eqb (valueAt b 0 1) 1) (eqb (length b) 128 && eqb (valueAt b 1 4) 123) (saysAdmitted b) k n9 n8)
+      (laws.iff-trans
+      (laws.iff-and (laws.iff-not-lt (length b) 5) (laws.iff-and (laws.iff-eq (valueAt b 0 1) 1) (laws.iff-and right-length laws.iff-same)))
+      (λ h. ((h .1 .1 .0 .0, h .1 .0, h .1 .1 .0 .1), h .1 .1 .1), λ h. (omega (arith, h .0 .0), (h .0 .1, ((h .0 .0, h .0 .2), h .1))))))
+
+  pub of-read-2 : (numberOf (readBlock b .reply) ≡ 2) ↔ (BlockForm b × OutOfRanges b)
+  of-read-2 = laws.iff-trans (of-read 2 (λ h. omega arith) (λ h. omega arith)) (laws.iff-and laws.iff-same (laws.iff-trans (not-2 (saysAdmitted b)) (of-block b)))
+
+  pub of-read-0 : (numberOf (readBlock b .reply) ≡ 0) ↔ (BlockForm b × (OutOfRanges b → ⊥))
+  of-read-0 = laws.iff-trans (of-read 0 (λ h. omega arith) (λ h. omega arith)) (laws.iff-and laws.iff-same (laws.iff-trans (is-0 (saysAdmitted b)) (in-ranges b)))
 
   pub read-of : OneOf (0 ∷ 2 ∷ 8 ∷ 9 ∷ []) (numberOf (readBlock b .reply))
   read-of = laws.same-of (0 ∷ 2 ∷ 8 ∷ 9 ∷ []) read-number (four-of (ltb (length b) 5) (eqb (valueAt b 0 1) 1) (eqb (length b) 128 && eqb (valueAt b 1 4) 123) (saysAdmitted b))

@@ -8,7 +8,7 @@ use native.Mathlib.Omega.{arith}
 use lib.Dec.{ltb, leb}
 use Rattle.manual.specs.declared.Cpu.{Cpu}
 use Rattle.manual.specs.declared.Level.{Level}
-use Rattle.manual.specs.declared.Level.the-variants.{To}
+use Rattle.manual.specs.declared.Level.the-variants.{Kept, To}
 use Rattle.manual.specs.declared.Size.the-variants.{Long}
 use Rattle.manual.specs.declared.Reply.the-variants.{OutOfRange, Masked}
 use Rattle.manual.specs.declared.Got.{Got}
@@ -20,11 +20,16 @@ use Rattle.manual.specs.Reply.{numberOf, isDone, Outcome, completed, unchanged,
 use Rattle.manual.specs.Admitted.{admitted}
 use Rattle.manual.specs.Lent.{Lent, memoryOf, firstRefusal, checked}
 use Rattle.manual.specs.Exceptions.{maskOf, entered, returned, levelTaken, masked, exception, interrupt, rte, push32, notPopped, popped, pop32}
+use Rattle.word.specs.TestLaws.{by-lt}
 use Rattle.demands.specs.Accesses.{Wanted, wanted, Inside, Outside, SomeOutside, entryAt, returnAt}
 use Rattle.demands.specs.ReplyLaws as laws
-use Rattle.demands.specs.Exact.{numbered, TooLong, Usable, Ready, OneOf}
+use Rattle.demands.specs.Exact.{numbered, TooLong, Usable, Ready, LevelBelow8, LetThrough, OneOf}
 
 -- ---- entries and returns
+
+level-is : (level : Level) → (levelTaken level ≡ true) ↔ LevelBelow8 level
+level-is Kept = (λ h. tt, λ h. refl)
+level-is (To level) = laws.iff-lt level 8
 
 module _ (s : Cpu) (l : Lent) (vector pc : ℕ) (level : Level) where
   abbrev entry : Outcome
@@ -51,12 +56,12 @@ module _ (s : Cpu) (l : Lent) (vector pc : ℕ) (level : Level) where
   unfolding exception
   of-exception-2 = laws.checked-2 s l called (called-never 2 (λ h. omega arith) (λ h. omega arith) (λ h. omega arith))
 
-  pub of-exception-4 : (numbered (exception s l vector pc level) ≡ 4) ↔ (Ready s l × ((levelTaken level ≡ true) × SomeOutside (memoryOf l) (entryAt s level vector)))
+  pub of-exception-4 : (numbered (exception s l vector pc level) ≡ 4) ↔ (Ready s l × (LevelBelow8 level × SomeOutside (memoryOf l) (entryAt s level vector)))
   unfolding exception
   of-exception-4 =
       laws.iff-trans (laws.checked-on s l called 4 (λ h. omega arith) (λ h. omega arith))
       (laws.iff-and laws.iff-same
-      (rw called-number (laws.iff-trans (laws.later-else 4 (numbered entry) 6 (λ h. omega arith) (levelTaken level)) (laws.iff-and laws.iff-same (laws.answers-4 (memoryOf l) (entryAt s level vector) entry (laws.entered-answers s s level vector pc (memoryOf l)))))))
+      (rw called-number (laws.iff-trans (laws.later-else 4 (numbered entry) 6 (λ h. omega arith) (levelTaken level)) (laws.iff-and (level-is level) (laws.answers-4 (memoryOf l) (entryAt s level vector) entry (laws.entered-answers s s level vector pc (memoryOf l)))))))
 
   pub of-exception-6 : (numbered (exception s l vector pc level) ≡ 6) ↔ (Ready s l × (levelTaken level ≡ false))
   unfolding exception
@@ -64,14 +69,14 @@ module _ (s : Cpu) (l : Lent) (vector pc : ℕ) (level : Level) where
       laws.iff-trans (laws.checked-on s l called 6 (λ h. omega arith) (λ h. omega arith))
       (laws.iff-and laws.iff-same (rw called-number (laws.here-else 6 (numbered entry) (entry-never 6 (λ h. omega arith) (λ h. omega arith)) (levelTaken level))))
 
-  pub of-exception-0 : (numbered (exception s l vector pc level) ≡ 0) ↔ (Ready s l × ((levelTaken level ≡ true) × (SomeOutside (memoryOf l) (entryAt s level vector) → ⊥)))
+  pub of-exception-0 : (numbered (exception s l vector pc level) ≡ 0) ↔ (Ready s l × (LevelBelow8 level × (SomeOutside (memoryOf l) (entryAt s level vector) → ⊥)))
   unfolding exception
   of-exception-0 =
       laws.iff-trans (laws.checked-on s l called 0 (λ h. omega arith) (λ h. omega arith))
       (laws.iff-and laws.iff-same
       (rw called-number
       (laws.iff-trans (laws.later-else 0 (numbered entry) 6 (λ h. omega arith) (levelTaken level))
-      (laws.iff-and laws.iff-same (laws.answers-0 (memoryOf l) (entryAt s level vector) entry (laws.entered-answers s s level vector pc (memoryOf l)))))))
+      (laws.iff-and (level-is level) (laws.answers-0 (memoryOf l) (entryAt s level vector) entry (laws.entered-answers s s level vector pc (memoryOf l)))))))
 
   pub of-exception : OneOf (0 ∷ 1 ∷ 2 ∷ 4 ∷ 6 ∷ []) (numbered (exception s l vector pc level))
   unfolding exception
@@ -118,7 +123,21 @@ module _ (s : Cpu) (l : Lent) (vector level : ℕ) where
   unfolding interrupt
   of-interrupt-2 = laws.checked-2 s l asked (asked-never 2 (λ h. omega arith) (λ h. omega arith) (λ h. omega arith) (λ h. omega arith))
 
-  pub of-interrupt-4 : (numbered (interrupt s l vector level) ≡ 4) ↔ (Ready s l × ((level < 8) × ((masked (s .sr) level ≡ false) × SomeOutside (memoryOf l) (entryAt s (To level) vector))))
+  masked-when : (masked (s .sr) level ≡ true) ↔ ((level < 7) × (level ≤ s .sr / 0x100 % 8))
+  unfolding masked
+  masked-when = laws.iff-trans (laws.iff-both (ltb level 7) (leb level (maskOf (s .sr)))) (laws.iff-and (laws.iff-lt level 7) (laws.iff-le level (maskOf (s .sr))))
+
+  not-masked : (masked (s .sr) level ≡ false) ↔ LetThrough (s .sr) level
+  not-masked = laws.iff-trans (laws.iff-not (masked (s .sr) level) masked-when) (there, back)
+    where
+      there : ((level < 7) × (level ≤ s .sr / 0x100 % 8) → ⊥) → LetThrough (s .sr) level
+      there n = by-lt level 7 (λ l. by-lt (s .sr / 0x100 % 8) level (λ o. inr o) (λ o. absurd (n (l, o)))) (λ l. inl l)
+
+      back : LetThrough (s .sr) level → (level < 7) × (level ≤ s .sr / 0x100 % 8) → ⊥
+      back (inl l) h = omega (arith, h .0)
+      back (inr l) h = omega (arith, h .1)
+
+  pub of-interrupt-4 : (numbered (interrupt s l vector level) ≡ 4) ↔ (Ready s l × ((level < 8) × (LetThrough (s .sr) level × SomeOutside (memoryOf l) (entryAt s (To level) vector))))
   unfolding interrupt
   of-interrupt-4 =
       laws.iff-trans (laws.checked-on s l asked 4 (λ h. omega arith) (λ h. omega arith))
@@ -128,7 +147,7 @@ module _ (s : Cpu) (l : Lent) (vector level : ℕ) where
       (laws.iff-and (laws.iff-lt level 8)
       (rw tried-number
       (laws.iff-trans (laws.later 4 (numbered taken) 7 (λ h. omega arith) (masked (s .sr) level))
-      (laws.iff-and laws.iff-same (laws.answers-4 (memoryOf l) (entryAt s (To level) vector) taken (laws.entered-answers s s (To level) vector (s .pc) (memoryOf l))))))))))
+      (laws.iff-and not-masked (laws.answers-4 (memoryOf l) (entryAt s (To level) vector) taken (laws.entered-answers s s (To level) vector (s .pc) (memoryOf l))))))))))
 
   pub of-interrupt-6 : (numbered (interrupt s l vector level) ≡ 6) ↔ (Ready s l × (8 ≤ level))
   unfolding interrupt
@@ -138,10 +157,6 @@ module _ (s : Cpu) (l : Lent) (vector level : ℕ) where
       (rw asked-number
       (laws.iff-trans (laws.here-else 6 (numbered tried) (tried-never 6 (λ h. omega arith) (λ h. omega arith) (λ h. omega arith)) (ltb level 8))
       (laws.iff-not-lt level 8))))
-
-  masked-when : (masked (s .sr) level ≡ true) ↔ ((level < 7) × (level ≤ s .sr / 0x100 % 8))
-  unfolding masked
-  masked-when = laws.iff-trans (laws.iff-both (ltb level 7) (leb level (maskOf (s .sr)))) (laws.iff-and (laws.iff-lt level 7) (laws.iff-le level (maskOf (s .sr))))
 
   pub of-interrupt-7 : (numbered (interrupt s l vector level) ≡ 7) ↔ (Ready s l × ((level < 7) × (level ≤ s .sr / 0x100 % 8)))
   unfolding interrupt
@@ -156,7 +171,7 @@ module _ (s : Cpu) (l : Lent) (vector level : ℕ) where
       (laws.iff-trans (laws.here 7 (numbered taken) (taken-never 7 (λ h. omega arith) (λ h. omega arith)) (masked (s .sr) level)) masked-when))
       (λ h. h .1, λ h. (omega (arith, h .0), h)))))))
 
-  pub of-interrupt-0 : (numbered (interrupt s l vector level) ≡ 0) ↔ (Ready s l × ((level < 8) × ((masked (s .sr) level ≡ false) × (SomeOutside (memoryOf l) (entryAt s (To level) vector) → ⊥))))
+  pub of-interrupt-0 : (numbered (interrupt s l vector level) ≡ 0) ↔ (Ready s l × ((level < 8) × (LetThrough (s .sr) level × (SomeOutside (memoryOf l) (entryAt s (To level) vector) → ⊥))))
   unfolding interrupt
   of-interrupt-0 =
       laws.iff-trans (laws.checked-on s l asked 0 (λ h. omega arith) (λ h. omega arith))
@@ -166,7 +181,7 @@ module _ (s : Cpu) (l : Lent) (vector level : ℕ) where
       (laws.iff-and (laws.iff-lt level 8)
       (rw tried-number
       (laws.iff-trans (laws.later 0 (numbered taken) 7 (λ h. omega arith) (masked (s .sr) level))
-      (laws.iff-and laws.iff-same (laws.answers-0 (memoryOf l) (entryAt s (To level) vector) taken (laws.entered-answers s s (To level) vector (s .pc) (memoryOf l))))))))))
+      (laws.iff-and not-masked (laws.answers-0 (memoryOf l) (entryAt s (To level) vector) taken (laws.entered-answers s s (To level) vector (s .pc) (memoryOf l))))))))))
 
   pub of-interrupt : OneOf (0 ∷ 1 ∷ 2 ∷ 4 ∷ 6 ∷ 7 ∷ []) (numbered (interrupt s l vector level))
   unfolding interrupt

@@ -2,7 +2,7 @@
 --
 --   0  done; a step also gives the vector it entered, or 0
 --   1  memory too long
---   2  state not admitted
+--   2  state not admitted (AdmittedMeans says which are)
 --   3  state stopped (step; run with budget left)
 --   4  an access this call makes is not inside (those of a step are listed in Accesses and Effects)
 --   5  line 8; 0x4E7A, 0x4E7B; EMAC word operand
@@ -12,7 +12,7 @@
 --   9  block or file: wrong length
 --
 -- Order: 9 when under five bytes, 8, 9, then 1, 2, 6, 7, 3, and then in the order the step comes to them. Assumes nothing.
-use Prim.Native.Nat.{ℕ, _+_, _/_, _%_, _≤_, _<_}
+use Prim.Native.Nat.{ℕ, _+_, _-_, _*_, _/_, _%_, _^_, _≤_, _<_}
 use mathlib.Core.Path.{_≡_}
 use mathlib.Core.Bool.{true, false}
 use mathlib.Core.List.{List, [], _∷_}
@@ -29,13 +29,14 @@ use Rattle.manual.specs.Memory.{Storage, Memory, storageOf, valueAt, numberAt}
 use Rattle.manual.specs.Reply.{numberOf, isDone, Outcome}
 use Rattle.manual.specs.Admitted.{admitted}
 use Rattle.manual.specs.Lent.{Lent, memoryOf, lentOn, lentRefusal, firstRefusal}
-use Rattle.manual.specs.Exceptions.{levelTaken, masked, exception, interrupt, rte, push32, pop32, setSrCall, ipl, supervisorCall}
+use Rattle.manual.specs.Exceptions.{exception, interrupt, rte, push32, pop32, setSrCall, ipl, supervisorCall}
 use Rattle.manual.specs.EmacCalls.{accGetCall, accSetCall, accPhysCall, setAccPhysCall, setMacsrCall}
-use Rattle.manual.specs.Block.{saysAdmitted, readBlock, storeBlock}
+use Rattle.manual.specs.Block.{readBlock, storeBlock}
 use Rattle.manual.specs.Image.{imageState, imageReply, loadImage}
 use Rattle.instructions.specs.Step.{step}
 use Rattle.instructions.specs.Run.{RunOutcome, run}
 use Rattle.block.specs.Typed.{Typed}
+use Rattle.demands.specs.Steps.{Steps}
 use Rattle.demands.specs.Accesses.{wanted, Inside, Outside, SomeOutside, entryAt, returnAt}
 use Rattle.demands.specs.Effects.{vectorOf, effectOf, accesses}
 
@@ -86,6 +87,15 @@ pub data NotCarriedWord (m : Memory) (at op : ℕ) : Type 0 where
   word-operand : bitAnd op 0xF100 ≡ 0xA000 → op / 8 % 8 ≤ 5 → Inside m (plus at 2) 2 → numberAt m (plus at 2) Word / 0x800 % 2 ≡ 0
       → NotCarriedWord m at op
 
+-- the level of an entry: the mask is kept, or it is set to a level, which is at most 7
+abbrev pub LevelBelow8 : Level → Type 0
+LevelBelow8 Kept = Unit {0}
+LevelBelow8 (To level) = level < 8
+
+-- the mask, SR bits 10 to 8, lets a level through: level 7 always, a lower one above the mask
+abbrev pub LetThrough : ℕ → ℕ → Type 0
+LetThrough sr level = (7 ≤ level) ⊎ (sr / 0x100 % 8 < level)
+
 -- done: nothing stands against it. (Of the calls that make no access, 0 is what is left: NoOthers.)
 pub record Reply0 : Type 0 where
   pub step-0 : (s : Cpu) (l : Lent) → Bytes (l .storage)
@@ -94,13 +104,14 @@ pub record Reply0 : Type 0 where
       ↔ (Ready s l × ((s .stopped ≡ false) × ((SomeOutside m (accesses s m) → ⊥) × (NotCarriedWord m (s .pc) (numberAt m (s .pc) Word) → ⊥))))
   -- a step also gives the vector it entered, or 0: that of its row (Effects)
   pub step-vector : (s : Cpu) (l : Lent) → numbered (step s l) ≡ 0 → step s l .stepped .vector ≡ vectorOf (effectOf s (memoryOf l))
-  -- a run: as many steps as the budget says
-  pub run-0 : (budget : ℕ) (s : Cpu) (l : Lent) → (numberOf (run budget s l .ran .reply) ≡ 0) ↔ (Ready s l × (run budget s l .ran .count ≡ budget))
+  -- a run: as many steps as the budget says can be done, one after the other
+  pub run-0 : (budget : ℕ) (s : Cpu) (l : Lent)
+      → (numberOf (run budget s l .ran .reply) ≡ 0) ↔ (Ready s l × ((s′ : Cpu) × (l′ : Lent) × Steps budget s l s′ l′))
   pub exception-0 : (s : Cpu) (l : Lent) (vector pc : ℕ) (level : Level)
-      → (numbered (exception s l vector pc level) ≡ 0) ↔ (Ready s l × ((levelTaken level ≡ true) × (SomeOutside (memoryOf l) (entryAt s level vector) → ⊥)))
+      → (numbered (exception s l vector pc level) ≡ 0) ↔ (Ready s l × (LevelBelow8 level × (SomeOutside (memoryOf l) (entryAt s level vector) → ⊥)))
   pub interrupt-0 : (s : Cpu) (l : Lent) (vector level : ℕ)
       → (numbered (interrupt s l vector level) ≡ 0)
-      ↔ (Ready s l × ((level < 8) × ((masked (s .sr) level ≡ false) × (SomeOutside (memoryOf l) (entryAt s (To level) vector) → ⊥))))
+      ↔ (Ready s l × ((level < 8) × (LetThrough (s .sr) level × (SomeOutside (memoryOf l) (entryAt s (To level) vector) → ⊥))))
   pub rte-0 : (s : Cpu) (l : Lent) → (numbered (rte s l) ≡ 0) ↔ (Ready s l × (SomeOutside (memoryOf l) (returnAt s) → ⊥))
   pub push32-0 : (s : Cpu) (l : Lent) (v : ℕ) → (numbered (push32 s l v) ≡ 0) ↔ (Ready s l × Inside (memoryOf l) (minus (addressOf (s .r) 7) 4) 4)
   pub pop32-0 : (s : Cpu) (l : Lent) → (numberOf (pop32 s l .reply) ≡ 0) ↔ (Ready s l × Inside (memoryOf l) (addressOf (s .r) 7) 4)
@@ -141,10 +152,10 @@ pub record Reply3 : Type 0 where
 -- some access of the call is not inside. An entry stores two longs and reads the vector, a return reads two longs
 pub record Reply4 : Type 0 where
   pub exception-4 : (s : Cpu) (l : Lent) (vector pc : ℕ) (level : Level)
-      → (numbered (exception s l vector pc level) ≡ 4) ↔ (Ready s l × ((levelTaken level ≡ true) × SomeOutside (memoryOf l) (entryAt s level vector)))
+      → (numbered (exception s l vector pc level) ≡ 4) ↔ (Ready s l × (LevelBelow8 level × SomeOutside (memoryOf l) (entryAt s level vector)))
   pub interrupt-4 : (s : Cpu) (l : Lent) (vector level : ℕ)
       → (numbered (interrupt s l vector level) ≡ 4)
-      ↔ (Ready s l × ((level < 8) × ((masked (s .sr) level ≡ false) × SomeOutside (memoryOf l) (entryAt s (To level) vector))))
+      ↔ (Ready s l × ((level < 8) × (LetThrough (s .sr) level × SomeOutside (memoryOf l) (entryAt s (To level) vector))))
   pub rte-4 : (s : Cpu) (l : Lent) → (numbered (rte s l) ≡ 4) ↔ (Ready s l × SomeOutside (memoryOf l) (returnAt s))
   pub push32-4 : (s : Cpu) (l : Lent) (v : ℕ) → (numbered (push32 s l v) ≡ 4) ↔ (Ready s l × Outside (memoryOf l) (minus (addressOf (s .r) 7) 4) 4)
   pub pop32-4 : (s : Cpu) (l : Lent) → (numberOf (pop32 s l .reply) ≡ 4) ↔ (Ready s l × Outside (memoryOf l) (addressOf (s .r) 7) 4)
@@ -188,12 +199,31 @@ pub record Reply7 : Type 0 where
       → (numbered (interrupt s l vector level) ≡ 7) ↔ (Ready s l × ((level < 7) × (level ≤ s .sr / 0x100 % 8)))
 
 -- a block has 128 bytes, of which the first is 1 and the next four say 123
+abbrev pub BlockForm : List ℕ → Type 0
+BlockForm b = (length b ≡ 128) × (valueAt b 0 1 ≡ 1) × (valueAt b 1 4 ≡ 123)
+
+-- MACSR says unsigned integers: FI, 0x20, is clear and SU, 0x40, is set
+abbrev pub UnsignedMode : ℕ → Type 0
+UnsignedMode macsr = (macsr / 0x20 % 2 ≡ 0) × (macsr / 0x40 % 2 ≡ 1)
+
+-- a number of 64 bits, in two's complement, is not in 0 to 2^48-1, or in the other modes not in -2^47 to 2^47-1
+abbrev pub NumberOut : ℕ → ℕ → Type 0
+NumberOut macsr n = (UnsignedMode macsr × (2 ^ 48 ≤ n)) ⊎ ((UnsignedMode macsr → ⊥) × ((2 ^ 47 ≤ n) × (n < 2 ^ 64 - 2 ^ 47)))
+
+-- SR, MACSR, the number of an accumulator or the last byte of a block is out of its range
+pub data OutOfRanges (b : List ℕ) : Type 0 where
+  sr-bit : (bitAnd (valueAt b 73 2) 0xB71F ≡ valueAt b 73 2 → ⊥) → OutOfRanges b
+  macsr-above : 0xFFF < valueAt b 87 4 → OutOfRanges b
+  number-out : (i : ℕ) → i < 4 → NumberOut (valueAt b 87 4) (valueAt b (95 + i * 8) 8) → OutOfRanges b
+  last-above : 1 < valueAt b 127 1 → OutOfRanges b
+
 pub record Reply8And9 : Type 0 where
   pub read-block-9 : (b : List ℕ)
       → (numberOf (readBlock b .reply) ≡ 9) ↔ ((length b < 5) ⊎ ((5 ≤ length b) × ((valueAt b 0 1 ≡ 1) × ((length b ≡ 128) × (valueAt b 1 4 ≡ 123) → ⊥))))
   pub read-block-8 : (b : List ℕ) → (numberOf (readBlock b .reply) ≡ 8) ↔ ((5 ≤ length b) × (valueAt b 0 1 ≡ 1 → ⊥))
-  pub read-block-2 : (b : List ℕ)
-      → (numberOf (readBlock b .reply) ≡ 2) ↔ ((5 ≤ length b) × ((valueAt b 0 1 ≡ 1) × (((length b ≡ 128) × (valueAt b 1 4 ≡ 123)) × (saysAdmitted b ≡ false))))
+  pub read-block-2 : (b : List ℕ) → (numberOf (readBlock b .reply) ≡ 2) ↔ (BlockForm b × OutOfRanges b)
+  -- so it is read, with 0, exactly when it has the form and no number is out of its range
+  pub read-block-0 : (b : List ℕ) → (numberOf (readBlock b .reply) ≡ 0) ↔ (BlockForm b × (OutOfRanges b → ⊥))
   pub store-block-9 : (s : Cpu) (b : List ℕ) → (numberOf (storeBlock s b .reply) ≡ 9) ↔ (length b ≡ 128 → ⊥)
   pub store-block-2 : (s : Cpu) (b : List ℕ) → (numberOf (storeBlock s b .reply) ≡ 2) ↔ ((length b ≡ 128) × (admitted s ≡ false))
   -- an image file says how many bytes follow its first five: 14 to 49,166

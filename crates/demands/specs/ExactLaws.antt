@@ -1,27 +1,43 @@
 -- Each reply is given exactly when the document says: what Exact states holds. Assumes nothing.
-use mathlib.Core.Path.{sym}
+use Prim.Native.Nat.{ℕ}
+use mathlib.Core.Path.{_≡_, sym, ap}
 use mathlib.Core.Bool.{false≢true}
 use mathlib.Core.List.{[], _∷_}
+use mathlib.Core.Logic.{_↔_}
 use native.Mathlib.Omega.{arith}
+use Rattle.manual.specs.declared.Cpu.{Cpu}
 use Rattle.manual.specs.declared.Level.the-variants.{Kept, To}
 use Rattle.manual.specs.Admitted.{admitted}
+use Rattle.manual.specs.Reply.{numberOf}
+use Rattle.manual.specs.Lent.{Lent, lentOn}
 use Rattle.manual.specs.Exceptions.{maskOf}
+use Rattle.instructions.specs.Run.{RunOutcome, run}
+use Rattle.demands.specs.Steps.{Steps}
+use Rattle.demands.specs.Runs.{runs}
 use Rattle.demands.specs.ReplyLaws as laws
 use Rattle.demands.specs.AccessLaws.{inside-is, outside-is}
 use Rattle.demands.specs.FirstReplies.{usable-is, ready-is, first-1, first-2, first-of}
-use Rattle.demands.specs.Exact.{Meanings, Reply0, Reply1, Reply2, Reply3, Reply4, Reply5, Reply6, Reply7, Reply8And9, NoOthers}
+use Rattle.demands.specs.Exact.{Ready, Meanings, Reply0, Reply1, Reply2, Reply3, Reply4, Reply5, Reply6, Reply7, Reply8And9, NoOthers}
 use Rattle.demands.specs.StepReplies.{of-step-0, of-vector, of-run-0, of-step-1, of-step-2, of-step-3, of-step-4, of-step-5, of-step, of-nop, of-bitrev, of-run-1, of-run-2, of-run-3, of-run-4, of-run-5, of-run}
 use Rattle.demands.specs.EntryReplies.{of-exception-0, of-interrupt-0, of-rte-0, of-push-0, of-pop-0, of-exception-1, of-exception-2, of-exception-4, of-exception-6, of-exception, of-interrupt-1, of-interrupt-2, of-interrupt-4, of-interrupt-6, of-interrupt-7, of-interrupt, of-rte-1, of-rte-2, of-rte-4, of-rte, of-push-1, of-push-2, of-push-4, of-push, of-pop-1, of-pop-2, of-pop-4, of-pop}
-use Rattle.demands.specs.CallReplies.{set-sr-number, told-number, not-2, zero-or-2, acc-2, acc-6, acc-of, acc-get-number, acc-phys-number, acc-set-number, set-acc-phys-number, set-macsr-number, of-read-9, of-read-8, of-read-2, read-of, of-store-9, of-store-2, store-of, of-image-9, of-image-8, of-image-2, of-load-9, of-load, load-of}
+use Rattle.demands.specs.CallReplies.{set-sr-number, told-number, not-2, zero-or-2, acc-2, acc-6, acc-of, acc-get-number, acc-phys-number, acc-set-number, set-acc-phys-number, set-macsr-number, of-read-9, of-read-8, of-read-0, of-read-2, read-of, of-store-9, of-store-2, store-of, of-image-9, of-image-8, of-image-2, of-load-9, of-load, load-of}
 
 pub meanings : Meanings
 meanings = record { usable = usable-is; ready = ready-is; first-1 = first-1; first-2 = first-2; first-of = first-of; inside = inside-is; outside = outside-is }
+
+-- a run is done exactly where its steps can be done one after the other
+run-done : (budget : ℕ) (s : Cpu) (l : Lent) → (numberOf (run budget s l .ran .reply) ≡ 0) ↔ (Ready s l × ((s′ : Cpu) × (l′ : Lent) × Steps budget s l s′ l′))
+run-done budget s l = (
+  λ e. let h : Ready s l × (run budget s l .ran .count ≡ budget) = of-run-0 budget s l .0 e in
+      (h .0, (run budget s l .ran .cpu, lentOn l (run budget s l .storage), rw (h .1) at (runs .that-many budget s l))),
+  λ h. ap (λ (r : RunOutcome). numberOf (r .ran .reply)) (runs .does-them budget s (h .1 .0) l (h .1 .1) (h .0) (h .1 .2)),
+)
 
 pub reply-0 : Reply0
 reply-0 = record {
   step-0 = of-step-0;
   step-vector = of-vector;
-  run-0 = of-run-0;
+  run-0 = run-done;
   exception-0 = of-exception-0;
   interrupt-0 = of-interrupt-0;
   rte-0 = of-rte-0;
@@ -88,6 +104,7 @@ pub reply-8-and-9 : Reply8And9
 reply-8-and-9 = record {
   read-block-9 = of-read-9;
   read-block-8 = of-read-8;
+  read-block-0 = of-read-0;
   read-block-2 = of-read-2;
   store-block-9 = λ s b. of-store-9 b s;
   store-block-2 = λ s b. of-store-2 b s;

@@ -1,15 +1,17 @@
 -- The calls on a state block. Document: "The host harness", and "Numbered replies".
 --
--- Which reply is given exactly when, in the document's order: 9 and 8 are told by the block alone, then 1 by the memory, then 2 by the
--- block; every other is the reply of the call on the state that the block holds. And a refused call leaves the block and memory as
--- given, and answers the reply alone. A run that did no step leaves them too. Assumes nothing.
+-- The step's replies as one table, by the bytes of the block. Then every call: which reply is given exactly when, in the document's
+-- order. 9 and 8 are told by the block alone, then 1 by the memory, then 2 by the block; every other is the reply of the call on the
+-- state that the block holds. And a refused call leaves the block and memory as given, and answers the reply alone. A run that did no
+-- step leaves them too. Assumes nothing.
 use Prim.Native.Nat.{ℕ, _+_, _*_, _/_, _%_, _≤_, _<_}
 use mathlib.Core.Path.{_≡_, refl, sym, ap, _∙_}
 use mathlib.Core.Bool.{Bool, true, false, cond, _&&_, false≢true}
 use mathlib.Core.List.{List, [], _∷_}
 use mathlib.Core.Logic.{_↔_, _⊎_, ⊎-elim, inl, inr}
 use native.Mathlib.Omega.{arith}
-use lib.Dec.{eqb, leb}
+use lib.Dec.{eqb, leb, ltb}
+use lib.ListN.{length}
 use borrow.Author.Tests.{eq-eqb}
 use Rattle.manual.specs.declared.Cpu.{Cpu}
 use Rattle.manual.specs.declared.Level.{Level}
@@ -17,25 +19,63 @@ use Rattle.manual.specs.declared.Reply.{Reply}
 use Rattle.manual.specs.declared.Reply.the-variants.{Done, TooLong as Long, NotAdmitted, Stopped, NotInside, NotCarried, OutOfRange, Masked, WrongVersion, WrongLength}
 use Rattle.manual.specs.declared.Answer.{Answer}
 use Rattle.manual.specs.Reply.{numberOf, isDone, Outcome}
-use Rattle.manual.specs.Memory.{Storage}
+use Rattle.manual.specs.declared.Size.the-variants.{Word}
+use Rattle.manual.specs.Memory.{Storage, Memory, valueAt, numberAt}
 use Rattle.manual.specs.Admitted.{admitted}
-use Rattle.manual.specs.Lent.{Lent, lentRefusal, orElse}
+use Rattle.manual.specs.Lent.{Lent, memoryOf, lentRefusal, orElse}
 use Rattle.manual.specs.Exceptions.{exception, interrupt, rte}
-use Rattle.manual.specs.Block.{readBlock, storeBlock}
+use Rattle.manual.specs.Block.{stateAt, saysAdmitted, notRead, readBlock, storeBlock}
 use Rattle.instructions.specs.Step.{step}
 use Rattle.instructions.specs.Run.{RunOutcome, run}
 use Rattle.instructions.specs.HostCalls.{Called, called, blockReply, blockRefused, blockAfter, onBlock, exceptionOn, interruptOn, rteOn, stepOn, runOn}
+use Rattle.word.specs.TestLaws.{by-lt}
 use Rattle.demands.specs.Refusals.{NotZero, Unchanged, is-refused, refusals}
-use Rattle.demands.specs.Runs.{Steps, none, one-more, runs}
+use Rattle.demands.specs.Steps.{Steps, none, one-more}
+use Rattle.demands.specs.Runs.{runs}
 use Rattle.demands.specs.Admits.{admits}
 use Rattle.demands.specs.ReplyLaws as laws
-use Rattle.demands.specs.Exact.{OneOf, TooLong, Usable, numbered}
+use Rattle.demands.specs.Exact.{OneOf, TooLong, Usable, Ready, Bytes, NotCarriedWord, BlockForm, OutOfRanges, last-above, numbered}
+use Rattle.demands.specs.Accesses.{Inside, SomeOutside}
+use Rattle.demands.specs.Effects.{accesses}
+use Rattle.demands.specs.BlockRanges.{of-block, in-ranges}
 use Rattle.demands.specs.FirstReplies.{lent-1, lent-2, lent-of}
 use Rattle.demands.specs.ExactLaws as exact
 
 -- the reply's number of an answer: a vector or a count stands above it
 abbrev pub replyIn : Called → ℕ
 replyIn c = c .answer % 256
+
+-- the block has the right form, memory is not too long, and the block's numbers are in their ranges: the step begins
+abbrev pub Begins : List ℕ → Lent → Type 0
+Begins b l = BlockForm b × ((TooLong l → ⊥) × (OutOfRanges b → ⊥))
+
+-- when `harness::step` gives which reply, in the document's order, by the bytes of the block b and of memory
+pub record StepTable (b : List ℕ) (l : Lent) : Type 0 where
+  -- under five bytes; or the first is 1, but they are not 128 or the next four do not say 123
+  pub gives-9 : (replyIn (stepOn b l) ≡ 9) ↔ ((length b < 5) ⊎ ((5 ≤ length b) × ((valueAt b 0 1 ≡ 1) × ((length b ≡ 128) × (valueAt b 1 4 ≡ 123) → ⊥))))
+  -- the first byte is not 1
+  pub gives-8 : (replyIn (stepOn b l) ≡ 8) ↔ ((5 ≤ length b) × (valueAt b 0 1 ≡ 1 → ⊥))
+  -- memory is too long
+  pub gives-1 : (replyIn (stepOn b l) ≡ 1) ↔ (BlockForm b × TooLong l)
+  -- a number of the block is out of its range
+  pub gives-2 : (replyIn (stepOn b l) ≡ 2) ↔ (BlockForm b × ((TooLong l → ⊥) × OutOfRanges b))
+  -- the last byte says that the state is stopped
+  pub gives-3 : (replyIn (stepOn b l) ≡ 3) ↔ (Begins b l × (valueAt b 127 1 ≡ 1))
+  -- some access of the step of the state that the block says is not inside
+  pub gives-4 : let m : Memory = memoryOf l in
+      (replyIn (stepOn b l) ≡ 4) ↔ (Begins b l × ((valueAt b 127 1 ≡ 0) × SomeOutside m (accesses (stateAt b) m)))
+  -- the word at its program counter is not carried
+  pub gives-5 : Bytes (l .storage)
+      → let m : Memory = memoryOf l in
+      let pc : ℕ = stateAt b .pc in
+      (replyIn (stepOn b l) ≡ 5) ↔ (Begins b l × ((valueAt b 127 1 ≡ 0) × (Inside m pc 2 × NotCarriedWord m pc (numberAt m pc Word))))
+  -- none of these
+  pub gives-0 : Bytes (l .storage)
+      → let m : Memory = memoryOf l in
+      let pc : ℕ = stateAt b .pc in
+      (replyIn (stepOn b l) ≡ 0)
+      ↔ (Begins b l × ((valueAt b 127 1 ≡ 0) × ((SomeOutside m (accesses (stateAt b) m) → ⊥) × (NotCarriedWord m pc (numberAt m pc Word) → ⊥))))
+  pub no-other : OneOf (0 ∷ 1 ∷ 2 ∷ 3 ∷ 4 ∷ 5 ∷ 8 ∷ 9 ∷ []) (replyIn (stepOn b l))
 
 -- when a call on a block gives which reply; `read` is the reply to the block's own read, `inner` that of the call on its state
 pub record OnBlock (read : ℕ) (l : Lent) (reply inner : ℕ) : Type 0 where
@@ -136,7 +176,7 @@ module _ (l : Lent) (inner : ℕ) (few : inner ≤ 7) (one : (inner ≡ 1) ↔ T
 
 -- ---- the answers
 
-number-small : (n : Reply) → numberOf n ≤ 9
+pub number-small : (n : Reply) → numberOf n ≤ 9
 number-small Done = omega arith
 number-small Long = omega arith
 number-small NotAdmitted = omega arith
@@ -302,3 +342,102 @@ rte-kept b l = block-kept 0 low-0 alone-0 _ b l (readBlock b) (refusals .of-rte 
 
 pub host-refusals : HostRefusals
 host-refusals = record { of-step = step-kept; of-exception = exception-kept; of-interrupt = interrupt-kept; of-rte = rte-kept; of-run = run-kept }
+
+-- ---- the table of a step
+
+module _ (b : List ℕ) where
+  abbrev replied : ℕ
+  replied = numberOf (readBlock b .reply)
+
+  -- a block that is read holds the state that its bytes say
+  pub says : replied ≡ 0 → readBlock b .cpu ≡ stateAt b
+  unfolding readBlock
+  says = by (ltb (length b) 5) (eqb (valueAt b 0 1) 1) (eqb (length b) 128 && eqb (valueAt b 1 4) 123) (saysAdmitted b)
+    where
+      by : (x y z w : Bool)
+          → let r : Answer = cond x (notRead WrongLength) (cond y (cond z (cond w (record { reply = Done; cpu = stateAt b }) (notRead NotAdmitted)) (notRead WrongLength)) (notRead WrongVersion)) in
+          numberOf (r .reply) ≡ 0 → r .cpu ≡ stateAt b
+      by true y z w e = absurd (omega arith)
+      by false true true true e = refl
+      by false true true false e = absurd (omega arith)
+      by false true false w e = absurd (omega arith)
+      by false false z w e = absurd (omega arith)
+
+  -- it has the right form, whether its numbers are in their ranges or not
+  formed : ((replied ≡ 0) ⊎ (replied ≡ 2)) ↔ BlockForm b
+  formed = (
+    ⊎-elim (λ h. exact.reply-8-and-9 .read-block-0 b .0 h .0) (λ h. exact.reply-8-and-9 .read-block-2 b .0 h .0),
+    λ h. by (saysAdmitted b) (of-block b) (in-ranges b) h,
+  )
+    where
+      by : (t : Bool) → ((t ≡ false) ↔ OutOfRanges b) → ((t ≡ true) ↔ (OutOfRanges b → ⊥)) → BlockForm b → (replied ≡ 0) ⊎ (replied ≡ 2)
+      by true p q h = inl (exact.reply-8-and-9 .read-block-0 b .1 (h, q .0 refl))
+      by false p q h = inr (exact.reply-8-and-9 .read-block-2 b .1 (h, p .0 refl))
+
+  stopped-is : (stateAt b .stopped ≡ true) ↔ (valueAt b 127 1 ≡ 1)
+  unfolding stateAt
+  stopped-is = laws.iff-eq (valueAt b 127 1) 1
+
+  awake-is : (OutOfRanges b → ⊥) → (stateAt b .stopped ≡ false) ↔ (valueAt b 127 1 ≡ 0)
+  awake-is n = laws.iff-trans (laws.iff-not (stateAt b .stopped) stopped-is) (there, λ h e. omega arith)
+    where
+      there : (valueAt b 127 1 ≡ 1 → ⊥) → valueAt b 127 1 ≡ 0
+      there k = by-lt (valueAt b 127 1) 1 (λ h. omega arith) (λ h. by-lt 1 (valueAt b 127 1) (λ o. absurd (n (last-above o))) (λ o. absurd (k (omega arith))))
+
+  module _ (l : Lent) where
+    begins : (X : Cpu → Type 0) → ((replied ≡ 0) × (Ready (readBlock b .cpu) l × X (readBlock b .cpu))) ↔ (Begins b l × X (stateAt b))
+    begins X = (there, back)
+      where
+        there : (replied ≡ 0) × (Ready (readBlock b .cpu) l × X (readBlock b .cpu)) → Begins b l × X (stateAt b)
+        there h =
+            let f : BlockForm b × (OutOfRanges b → ⊥) = exact.reply-8-and-9 .read-block-0 b .0 (h .0) in
+            ((f .0, (exact.meanings .usable l .0 (exact.meanings .ready (readBlock b .cpu) l .0 (h .1 .0) .0), f .1)), rw (says (h .0)) at (h .1 .1))
+
+        back : Begins b l × X (stateAt b) → (replied ≡ 0) × (Ready (readBlock b .cpu) l × X (readBlock b .cpu))
+        back h =
+            let e : replied ≡ 0 = exact.reply-8-and-9 .read-block-0 b .1 (h .0 .0, h .0 .1 .1) in
+            (e, (exact.meanings .ready (readBlock b .cpu) l .1 (exact.meanings .usable l .1 (h .0 .1 .0), admits .by-read-block b), rw (says e) (h .1)))
+
+    goes-on : (X : Cpu → Type 0) → ((replied ≡ 0) × (Ready (readBlock b .cpu) l × ((readBlock b .cpu .stopped ≡ false) × X (readBlock b .cpu)))) ↔ (Begins b l × ((valueAt b 127 1 ≡ 0) × X (stateAt b)))
+    goes-on X =
+        laws.iff-trans (begins (λ s. (s .stopped ≡ false) × X s))
+        (λ h. (h .0, (awake-is (h .0 .1 .1) .0 (h .1 .0), h .1 .1)), λ h. (h .0, (awake-is (h .0 .1 .1) .1 (h .1 .0), h .1 .1)))
+
+    -- every block and every step has its row
+    has-row : (n : ℕ) → OnBlock replied l n (numbered (step (readBlock b .cpu) l)) → OneOf (0 ∷ 2 ∷ 8 ∷ 9 ∷ []) replied
+        → OneOf (0 ∷ 1 ∷ 2 ∷ 3 ∷ 4 ∷ 5 ∷ []) (numbered (step (readBlock b .cpu) l)) → OneOf (0 ∷ 1 ∷ 2 ∷ 3 ∷ 4 ∷ 5 ∷ 8 ∷ 9 ∷ []) n
+    has-row n on (inl r) (inl e) = inl (on .gives 0 (inl refl) .1 (r, e))
+    has-row n on (inl r) (inr (inl e)) = inr (inl (on .gives-1 .1 (inl r, exact.reply-1 .step-1 (readBlock b .cpu) l .0 e)))
+    has-row n on (inl r) (inr (inr (inl e))) = absurd (never-2 b (exact.reply-2 .step-2 (readBlock b .cpu) l) e)
+    has-row n on (inl r) (inr (inr (inr (inl e)))) = inr (inr (inr (inl (on .gives 3 (inr (omega arith, omega arith)) .1 (r, e)))))
+    has-row n on (inl r) (inr (inr (inr (inr (inl e))))) = inr (inr (inr (inr (inl (on .gives 4 (inr (omega arith, omega arith)) .1 (r, e))))))
+    has-row n on (inl r) (inr (inr (inr (inr (inr (inl e)))))) = inr (inr (inr (inr (inr (inl (on .gives 5 (inr (omega arith, omega arith)) .1 (r, e)))))))
+    has-row n on (inr (inl r)) w =
+        by-lt 0x100_0000 (length (l .storage))
+        (λ o. inr (inl (on .gives-1 .1 (inr r, o))))
+        (λ o. inr (inr (inl (on .gives-2 .1 (r, exact.meanings .usable l .1 (λ x. omega arith))))))
+    has-row n on (inr (inr (inl r))) w = inr (inr (inr (inr (inr (inr (inl (on .gives-8 .1 r)))))))
+    has-row n on (inr (inr (inr (inl r)))) w = inr (inr (inr (inr (inr (inr (inr (inl (on .gives-9 .1 r))))))))
+
+    pub step-table : StepTable b l
+    step-table =
+        let on : OnBlock replied l (replyIn (stepOn b l)) (numbered (step (readBlock b .cpu) l)) = step-replies b l in
+        let s : Cpu = readBlock b .cpu in
+        let m : Memory = memoryOf l in
+        record {
+          gives-9 = laws.iff-trans (on .gives-9) (exact.reply-8-and-9 .read-block-9 b);
+          gives-8 = laws.iff-trans (on .gives-8) (exact.reply-8-and-9 .read-block-8 b);
+          gives-1 = laws.iff-trans (on .gives-1) (laws.iff-and formed laws.iff-same);
+          gives-2 = laws.iff-trans (on .gives-2) (laws.iff-trans (laws.iff-and (exact.reply-8-and-9 .read-block-2 b) (exact.meanings .usable l)) (λ h. (h .0 .0, (h .1, h .0 .1)), λ h. ((h .0, h .1 .1), h .1 .0)));
+          gives-3 = laws.iff-trans (on .gives 3 (inr (omega arith, omega arith)))
+              (laws.iff-trans (laws.iff-and laws.iff-same (exact.reply-3 .step-3 s l))
+              (laws.iff-trans (begins (λ s. s .stopped ≡ true)) (laws.iff-and laws.iff-same stopped-is)));
+          gives-4 = laws.iff-trans (on .gives 4 (inr (omega arith, omega arith)))
+              (laws.iff-trans (laws.iff-and laws.iff-same (exact.reply-4 .step-4 s l)) (goes-on (λ s. SomeOutside m (accesses s m))));
+          gives-5 = λ bytes. laws.iff-trans (on .gives 5 (inr (omega arith, omega arith)))
+              (laws.iff-trans (laws.iff-and laws.iff-same (exact.reply-5 .step-5 s l bytes)) (goes-on (λ s. Inside m (s .pc) 2 × NotCarriedWord m (s .pc) (numberAt m (s .pc) Word))));
+          gives-0 = λ bytes. laws.iff-trans (on .gives 0 (inl refl))
+              (laws.iff-trans (laws.iff-and laws.iff-same (exact.reply-0 .step-0 s l bytes))
+              (goes-on (λ s. (SomeOutside m (accesses s m) → ⊥) × (NotCarriedWord m (s .pc) (numberAt m (s .pc) Word) → ⊥))));
+          no-other = has-row (replyIn (stepOn b l)) on (exact.no-others .read-block-of b) (exact.no-others .step-of s l);
+        }

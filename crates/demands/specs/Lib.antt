@@ -1,5 +1,6 @@
 pub mod Accesses
 pub mod Effects
+pub mod Steps
 pub mod Exact
 pub mod AccessLaws
 pub mod FirstReplies
@@ -17,12 +18,15 @@ pub mod ReplyLaws
 pub mod EffectLaws
 pub mod StepReplies
 pub mod EntryReplies
+pub mod BlockRanges
 pub mod CallReplies
 pub mod ExactLaws
 pub mod Host
 pub mod Handmade
 pub mod Followed
 pub mod Engines
+pub mod AdmittedMeans
 pub mod Admits
 pub mod Units
 pub mod Determined
+pub mod HostSentences

@@ -2,9 +2,10 @@
 --
 -- A run of budget n steps until n are done (reply 0) or one is refused (that reply). Its count, state and memory are those of that
 -- many steps, each of them done; a run that stops early stops at the first step that is refused. Replies 1 and 2 come first at
--- every budget, with count 0 and the state and memory as given. Memory stays as long as it was, and its bytes stay bytes. Assumes nothing.
+-- every budget, with count 0 and the state and memory as given. Budget 0 otherwise gives 0 and count 0. Steps that can be done one
+-- after the other have one end, and a run does them. Memory stays as long as it was, and its bytes stay bytes. Assumes nothing.
 use Prim.Native.Nat.{ℕ, zero, suc, _+_, _/_, _%_, _<_}
-use mathlib.Core.Path.{_≡_, refl, ap, _∙_}
+use mathlib.Core.Path.{_≡_, refl, sym, ap, _∙_}
 use mathlib.Core.Bool.{Bool, true, false, cond}
 use mathlib.Core.List.{List}
 use mathlib.Core.Logic.{_⊎_, ⊎-elim, inl, inr}
@@ -33,16 +34,11 @@ use Rattle.instructions.specs.Perform.{statusPushed, act, perform}
 use Rattle.instructions.specs.Step.{execute, step}
 use Rattle.instructions.specs.Run.{RunOutcome, ended, afterOne, steps, run}
 use Rattle.memory.specs.MemoryLaws.{length-store}
+use Rattle.demands.specs.Steps.{Steps, none, one-more}
 use Rattle.demands.specs.Exact.{Bytes, Ready}
 use Rattle.demands.specs.AccessLaws.{accessing-all, loading-all, taking-all}
 use Rattle.demands.specs.Refusals.{NotZero, is-done, is-not, step-kept}
 use Rattle.demands.specs.ValueLaws.{store-bytes}
-
--- n steps, all of them done, lead from s and l to s′ and l′
-pub data Steps : ℕ → Cpu → Lent → Cpu → Lent → Type 0 where
-  none : {s : Cpu} {l : Lent} → Steps 0 s l s l
-  one-more : {n : ℕ} {s s′ : Cpu} {l l′ : Lent} → step s l .stepped .reply ≡ Done
-      → Steps n (step s l .stepped .cpu) (lentOn l (step s l .storage)) s′ l′ → Steps (suc n) s l s′ l′
 
 -- all were done, or the next one is refused, with the run's reply
 abbrev pub Ends : ℕ → Lent → RunOutcome → Type 0
@@ -56,6 +52,11 @@ pub record Runs : Type 0 where
   pub as-long : (budget : ℕ) (s : Cpu) (l : Lent) → length (run budget s l .storage) ≡ length (l .storage)
   pub still-bytes : (budget : ℕ) (s : Cpu) (l : Lent) → Bytes (l .storage) → Bytes (run budget s l .storage)
   pub ends : (budget : ℕ) (s : Cpu) (l : Lent) → Ready s l → Ends budget l (run budget s l)
+  -- budget 0 gives 0 and count 0, also when stopped, with the state and memory as given
+  pub budget-0 : (s : Cpu) (l : Lent) → Ready s l → run 0 s l ≡ ended Done 0 s (l .storage)
+  -- steps that can be done one after the other are done, and lead to one end
+  pub does-them : (budget : ℕ) (s s′ : Cpu) (l l′ : Lent) → Ready s l → Steps budget s l s′ l′ → run budget s l ≡ ended Done budget s′ (l′ .storage)
+  pub one-end : (n : ℕ) (s s₁ s₂ : Cpu) (l l₁ l₂ : Lent) → Steps n s l s₁ l₁ → Steps n s l s₂ l₂ → (s₁ ≡ s₂) × (l₁ .storage ≡ l₂ .storage)
 
 -- ---- the proofs
 
@@ -158,7 +159,7 @@ module _ (K : Storage → Type 0) (keeps : (b : Storage) (a n v : ℕ) → K b �
     act-kept s (ClearAcc i) = h
     act-kept s (Refuse n) = h
 
-  step-storage : (s : Cpu) (l : Lent) → K (l .storage) → Keeps (step s l)
+  pub step-storage : (s : Cpu) (l : Lent) → K (l .storage) → Keeps (step s l)
   unfolding step perform
   step-storage s l h =
       let m : Memory = memoryOf l in
@@ -206,6 +207,20 @@ that-many budget s l = by (isDone (firstRefusal s l))
     by true = steps-many budget s l .0
     by false = none
 
+run-none : (s : Cpu) (l : Lent) → Ready s l → run 0 s l ≡ ended Done 0 s (l .storage)
+unfolding steps
+run-none s l h = run-steps 0 s l h
+
+steps-all : {n : ℕ} {s s′ : Cpu} {l l′ : Lent} → Steps n s l s′ l′ → steps n s l ≡ ended Done n s′ (l′ .storage)
+unfolding steps
+steps-all none = refl
+steps-all (one-more {n} {s} {s′} {l} {l′} d h) = rw d (ap afterOne (steps-all h))
+
+one-end : {n : ℕ} {s s₁ s₂ : Cpu} {l l₁ l₂ : Lent} → Steps n s l s₁ l₁ → Steps n s l s₂ l₂ → (s₁ ≡ s₂) × (l₁ .storage ≡ l₂ .storage)
+one-end {n} {s} {s₁} {s₂} {l} {l₁} {l₂} p q =
+    let e : ended Done n s₁ (l₁ .storage) ≡ ended Done n s₂ (l₂ .storage) = sym (steps-all p) ∙ steps-all q in
+    (ap (λ (r : RunOutcome). r .ran .cpu) e, ap (λ (r : RunOutcome). r .storage) e)
+
 pub runs : Runs
 runs = record {
   first = run-first;
@@ -213,4 +228,7 @@ runs = record {
   as-long = λ budget s l. run-storage (λ b. length b ≡ length (l .storage)) (λ b a n v e. length-store b a n v ∙ e) budget s l refl;
   still-bytes = λ budget s l. run-storage Bytes store-bytes budget s l;
   ends = λ budget s l h. rw (run-steps budget s l h) (steps-many budget s l .1);
+  budget-0 = run-none;
+  does-them = λ budget s s′ l l′ h d. run-steps budget s l h ∙ steps-all d;
+  one-end = λ n s s₁ s₂ l l₁ l₂. one-end;
 }
