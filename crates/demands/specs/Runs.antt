@@ -158,7 +158,7 @@ module _ (K : Storage → Type 0) (keeps : (b : Storage) (a n v : ℕ) → K b �
     act-kept s (ClearAcc i) = h
     act-kept s (Refuse n) = h
 
-  step-storage : (s : Cpu) (l : Lent) → K (l .storage) → Keeps (step s l)
+  pub step-storage : (s : Cpu) (l : Lent) → K (l .storage) → Keeps (step s l)
   unfolding step perform
   step-storage s l h =
       let m : Memory = memoryOf l in
