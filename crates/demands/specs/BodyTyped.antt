@@ -18,6 +18,7 @@ use Rattle.manual.specs.declared.Operand.{Operand}
 use Rattle.manual.specs.declared.Operand.the-variants.{Immediate}
 use Rattle.manual.specs.declared.Write.{Write}
 use Rattle.manual.specs.declared.Source.{Source}
+use Rattle.manual.specs.declared.Destination.{Destination}
 use Rattle.manual.specs.declared.Quotient.{Quotient}
 use Rattle.manual.specs.declared.Got.{Got}
 use Rattle.manual.specs.declared.Got.the-variants.{Value, Fault as NoValue}
@@ -36,7 +37,7 @@ use Rattle.manual.specs.Emac.{fractional}
 use Rattle.manual.specs.Fields.{bits, upper, upperMode, mode, register, bitOperator, sizeField, byteOrWord, lowByte, conditionField, accField, extField, wordOperands, line}
 use Rattle.manual.specs.Registers.{dataOf, addressOf, noWrite, writeData, writeAddress, writeGeneral, written}
 use Rattle.manual.specs.Memory.{Memory, storageOf, load}
-use Rattle.manual.specs.Address.{operand, operandOf, locate, value, source, control, destination, destinationOf}
+use Rattle.manual.specs.Address.{operand, operandOf, fetch, value, source, control, destination, destinationOf}
 use Rattle.manual.specs.Differences.{anySize}
 use Rattle.manual.specs.Change.{done, acting, illegal, privilege, jump, reading, reaching, putTo, Result, updating}
 use Rattle.instructions.specs.Rows.{firstRow, placeIn, rowOf}
@@ -70,33 +71,56 @@ module _ (g : List ℕ) (all : Longs g) (at : ℕ) (here : IsLong at) (sr : ℕ)
   to-data codes r v h = data-fits (plus at 2) codes noWrite r v (plus-below at 2) no-write-long h
 
   load-fits : (a : ℕ) (z : Size) (f : ℕ → Change) → ((v : ℕ) → v < numbers z → FitsLong (f v)) → FitsLong (reading (load m a z) f)
-  load-fits a z f h = fit.load-fits g all m bytes-in a z f h
+  load-fits a z f h = fit.load-fits m bytes-in a z f h
+
+  -- the address that the word names
+  reach-fits : (f : ℕ → Change) → ((a : ℕ) → IsLong a → FitsLong (f a)) → FitsLong (reaching sr at (control g m (plus at 2) (operandOf op)) f)
+  reach-fits f h = fit.reaching-fits sr at (control g m (plus at 2) (operandOf op)) f here (fit.control-fits m bytes-in g all (plus at 2) (operandOf op)) h
 
   -- the operand that the word names, its extension words being at pc
   module _ (pc : ℕ) (z : Size) where
-    source-fits : (f : ℕ → Change) → ((v : ℕ) → v < numbers z → FitsLong (f v)) → FitsLong (reading (source g m pc op z .got) f)
-    source-fits f h = fit.source-fits g all m bytes-in pc op z f h
+    abbrev from : Source
+    from = source g m pc op z
 
-    next-long : IsLong (source g m pc op z .next)
-    next-long = fit.source-next g all m bytes-in pc op z
+    source-fits : (f : ℕ → Change) → ((v : ℕ) → v < numbers z → FitsLong (f v)) → FitsLong (reading (from .got) f)
+    unfolding source
+    source-fits f h = fit.reading-fits (numbers z) (from .got) f (fit.value-below m bytes-in g all pc (operandOf op) z) h
 
-    moved-long : IsLong (source g m pc op z .moved .value)
-    moved-long = fit.source-moved g all m bytes-in pc op z
+    next-long : IsLong (from .next)
+    unfolding source
+    next-long = plus-below pc _
 
-    source-to-data : (codes r v : ℕ) → IsLong v → FitsLong (done (source g m pc op z .next) codes (source g m pc op z .moved) (writeData r v))
-    source-to-data codes r v h = data-fits (source g m pc op z .next) codes (source g m pc op z .moved) r v next-long moved-long h
+    moved-long : IsLong (from .moved .value)
+    unfolding source
+    moved-long = fit.moved-long g all (operandOf op) z
 
-    source-to-address : (codes r v : ℕ) → IsLong v → FitsLong (done (source g m pc op z .next) codes (source g m pc op z .moved) (writeAddress r v))
-    source-to-address codes r v h = address-fits (source g m pc op z .next) codes (source g m pc op z .moved) r v next-long moved-long h
+    source-to-data : (codes r v : ℕ) → IsLong v → FitsLong (done (from .next) codes (from .moved) (writeData r v))
+    source-to-data codes r v h = data-fits (from .next) codes (from .moved) r v next-long moved-long h
 
-    source-alone : (codes : ℕ) → FitsLong (done (source g m pc op z .next) codes (source g m pc op z .moved) noWrite)
-    source-alone codes = done-fits (source g m pc op z .next) codes (source g m pc op z .moved) noWrite next-long moved-long no-write-long
+    source-to-address : (codes r v : ℕ) → IsLong v → FitsLong (done (from .next) codes (from .moved) (writeAddress r v))
+    source-to-address codes r v h = address-fits (from .next) codes (from .moved) r v next-long moved-long h
 
-  put-to-fits : (z : Size) (codes v : ℕ) → IsLong v → FitsLong (putTo g codes (destination g m (plus at 2) op z) z v)
-  put-to-fits z codes v h = fit.put-to-fits g all m bytes-in (plus at 2) op z codes v h
+    source-alone : (codes : ℕ) → FitsLong (done (from .next) codes (from .moved) noWrite)
+    source-alone codes = done-fits (from .next) codes (from .moved) noWrite next-long moved-long no-write-long
 
-  updating-fits : (z : Size) (f : ℕ → Result) → ((v : ℕ) → v < numbers z → IsLong (f v .value)) → FitsLong (updating g m (plus at 2) op z f)
-  updating-fits z f h = fit.updating-fits g all m bytes-in (plus at 2) op z f h
+    -- where it is written
+    abbrev to : Destination
+    to = destination g m pc op z
+
+    to-alone : (codes : ℕ) → FitsLong (done (to .next) codes (to .moved) noWrite)
+    unfolding destinationOf
+    to-alone codes = done-fits (to .next) codes (to .moved) noWrite (plus-below pc _) (fit.moved-long g all (operandOf op) z) no-write-long
+
+    put-to-fits : (codes v : ℕ) → IsLong v → FitsLong (putTo g codes to z v)
+    unfolding putTo
+    put-to-fits codes v h = fit.put-fits g all z v (to .place) _ h (to-alone codes)
+
+    place-fits : (f : ℕ → Change) → ((v : ℕ) → v < numbers z → FitsLong (f v)) → FitsLong (reading (fetch g m (to .place) z) f)
+    place-fits f h = fit.reading-fits (numbers z) (fetch g m (to .place) z) f (fit.fetch-below m bytes-in g all (to .place) z) h
+
+    -- what is made of its value goes back to it
+    updating-fits : (f : ℕ → Result) → ((v : ℕ) → v < numbers z → IsLong (f v .value)) → FitsLong (updating g m pc op z f)
+    updating-fits f h = place-fits _ (λ v l. put-to-fits _ _ (h v l))
 
   -- ---- line 0
 
@@ -123,9 +147,9 @@ module _ (g : List ℕ) (all : Longs g) (at : ℕ) (here : IsLong at) (sr : ℕ)
   sum-immediate add = load-fits (plus at 2) Long _ (λ v h. data-fits _ _ noWrite _ _ (plus-below _ 4) no-write-long (fit.sum-long add Long v _ false))
 
   compare-immediate : (z : Size) → FitsLong (l0.cmpi z g at sr m op)
-  unfolding l0.cmpi value
+  unfolding l0.cmpi
   compare-immediate z =
-      fit.reading-fits (numbers z) (value g m (plus at 2) Immediate z) _ (fit.fetch-below g all m bytes-in (locate g m (plus at 2) Immediate z) z)
+      fit.reading-fits (numbers z) (value g m (plus at 2) Immediate z) _ (fit.value-below m bytes-in g all (plus at 2) Immediate z)
       (λ v h. done-fits _ _ noWrite noWrite (plus-below _ _) no-write-long no-write-long)
 
   bit-operation : (pc n : ℕ) → IsLong pc → FitsLong (l0.bitOperation g pc sr m op n)
@@ -133,10 +157,9 @@ module _ (g : List ℕ) (all : Longs g) (at : ℕ) (here : IsLong at) (sr : ℕ)
   bit-operation pc n p =
       either-fits (eqb (mode op) 0) _ _
       (data-fits pc _ noWrite _ _ p no-write-long (fit.changed-bit-long (bitOperator op) (n % 32) _ (omega arith) (fit.data-long g all _)))
-      (fit.place-fits g all m bytes-in pc op Byte _
-      (λ v h. either-fits (eqb (bitOperator op) 0) _ _
-      (done-fits _ _ _ noWrite (fit.to-next g all m bytes-in pc op Byte) (fit.to-moved g all m bytes-in pc op Byte) no-write-long)
-      (fit.put-to-fits g all m bytes-in pc op Byte _ _ (fit.changed-bit-long (bitOperator op) (n % 8) v (omega arith) (fit.of-size Byte v h)))))
+      (place-fits pc Byte _
+      (λ v h. either-fits (eqb (bitOperator op) 0) _ _ (to-alone pc Byte _)
+      (put-to-fits pc Byte _ _ (fit.changed-bit-long (bitOperator op) (n % 8) v (omega arith) (fit.of-size Byte v h)))))
 
   by-immediate : FitsLong (l0.bitByImmediate g at sr m op)
   unfolding l0.bitByImmediate
@@ -192,10 +215,6 @@ module _ (g : List ℕ) (all : Longs g) (at : ℕ) (here : IsLong at) (sr : ℕ)
   next-fits : FitsLong (l4.nop at sr)
   unfolding l4.nop
   next-fits = jump-fits sr _ (plus-below at 2)
-
-  -- an address that the word names
-  reach-fits : (f : ℕ → Change) → ((a : ℕ) → IsLong a → FitsLong (f a)) → FitsLong (reaching sr at (control g m (plus at 2) (operandOf op)) f)
-  reach-fits f h = fit.reaching-operand g all m bytes-in sr at (plus at 2) op f here h
 
   lea-fits : FitsLong (l4.lea g at sr m op)
   unfolding l4.lea
@@ -340,7 +359,7 @@ module _ (g : List ℕ) (all : Longs g) (at : ℕ) (here : IsLong at) (sr : ℕ)
 
   clr-fits : FitsLong (l4.clr g at sr m op)
   unfolding l4.clr
-  clr-fits = put-to-fits (sizeField op) _ 0 (omega arith)
+  clr-fits = put-to-fits (plus at 2) (sizeField op) _ 0 (omega arith)
 
   tst-fits : FitsLong (l4.tst g at sr m op)
   unfolding l4.tst
@@ -348,7 +367,7 @@ module _ (g : List ℕ) (all : Longs g) (at : ℕ) (here : IsLong at) (sr : ℕ)
 
   tas-fits : FitsLong (l4.tas g at sr m op)
   unfolding l4.tas
-  tas-fits = updating-fits Byte _ (λ v h. with-below 7 v true 32 (omega arith) (fit.of-size Byte v h))
+  tas-fits = updating-fits (plus at 2) Byte _ (λ v h. with-below 7 v true 32 (omega arith) (fit.of-size Byte v h))
 
   -- the second word, and the operand after it
   word-and-long : (f : ℕ → Source → ℕ → Change) → ((w v : ℕ) → IsLong v → FitsLong (f w (source g m (plus (plus at 2) 2) op Long) v)) → FitsLong (l4.withWordAndLong g at m op f)
@@ -435,7 +454,7 @@ module _ (g : List ℕ) (all : Longs g) (at : ℕ) (here : IsLong at) (sr : ℕ)
 
   to-place : (add : Bool) (z : Size) (n : ℕ) → FitsLong (l9.addToPlace add z g at m op n)
   unfolding l9.addToPlace
-  to-place add z n = updating-fits z _ (λ v h. fit.sum-long add z n v false)
+  to-place add z n = updating-fits (plus at 2) z _ (λ v h. fit.sum-long add z n v false)
 
   add-to-data : (add : Bool) → FitsLong (l9.addToData add g at m op)
   unfolding l9.addToData
@@ -565,7 +584,7 @@ module _ (g : List ℕ) (all : Longs g) (at : ℕ) (here : IsLong at) (sr : ℕ)
 
   logic-to-place : (l : Logic) → FitsLong (lb.logicToPlace l g at sr m op)
   unfolding lb.logicToPlace
-  logic-to-place l = let z : Size = anySize op in updating-fits z _ (λ v h. fit.logic-long l v _ (fit.of-size z v h) (fit.data-long g all _))
+  logic-to-place l = let z : Size = anySize op in updating-fits (plus at 2) z _ (λ v h. fit.logic-long l v _ (fit.of-size z v h) (fit.data-long g all _))
 
   pub lineB-fits : (n : ℕ) → FitsLong (lb.lineB n g at sr m op)
   unfolding lb.lineB
@@ -622,8 +641,7 @@ module _ (g : List ℕ) (all : Longs g) (at : ℕ) (here : IsLong at) (sr : ℕ)
   unfolding lf.wddata
   debug-data =
       let z : Size = sizeField op in
-      fit.locating-fits (destination g m (plus at 2) op z .place) _
-      (done-fits _ _ _ noWrite (fit.to-next g all m bytes-in (plus at 2) op z) (fit.to-moved g all m bytes-in (plus at 2) op z) no-write-long)
+      fit.locating-fits (destination g m (plus at 2) op z .place) _ (to-alone (plus at 2) z _)
 
   pub lineF-fits : (n : ℕ) → FitsLong (lf.lineF n g at sr m op)
   unfolding lf.lineF
@@ -665,7 +683,7 @@ module _ (g : List ℕ) (all : Longs g) (at : ℕ) (here : IsLong at) (sr : ℕ)
 
   move-three : FitsLong (la.mov3q g at sr m op)
   unfolding la.mov3q la.threeBits
-  move-three = put-to-fits Long _ _ (either-long (eqb (upper op) 0) _ _ (omega arith) (omega arith))
+  move-three = put-to-fits (plus at 2) Long _ _ (either-long (eqb (upper op) 0) _ _ (omega arith) (omega arith))
 
   unassigned-fits : FitsLong (la.unassigned g at sr m op)
   unfolding la.unassigned
@@ -759,4 +777,4 @@ pub execute-fits : (g : List ℕ) (at sr other : ℕ) (e : Emac) (m : Memory) �
     → FitsLong (execute g at sr other e m)
 unfolding execute
 execute-fits g at sr other e m all here o status mask bytes-in =
-    fit.load-fits g all m bytes-in at Word _ (λ op h. instruction-fits g all at here sr m bytes-in op other e o status mask)
+    fit.load-fits m bytes-in at Word _ (λ op h. instruction-fits g all at here sr m bytes-in op other e o status mask)

@@ -38,12 +38,12 @@ use Rattle.manual.specs.Bits.{logic, changedBit, reversedBytes}
 use Rattle.manual.specs.Registers.{dataOf, addressOf, general, noWrite, writeData, writeAddress, writeGeneral, written}
 use Rattle.manual.specs.Flags.{added, subtracted, sumOrDifference}
 use Rattle.manual.specs.Memory.{Memory, storageOf, access, found, load}
-use Rattle.manual.specs.Address.{operandOf, indexed, locate, moved, fetch, value, source, reached, control, _then_, destination, destinationOf}
+use Rattle.manual.specs.Address.{indexed, locate, moved, fetch, value, reached, control, _then_}
 use Rattle.manual.specs.Multiply.{longProduct, signedLongProduct, wordProduct, signedWordProduct}
 use Rattle.manual.specs.Divide.{noQuotient, quotient, signedQuotient}
 use Rattle.manual.specs.Shift.{shiftedLeft, shiftedRight, signedShiftedRight}
 use Rattle.manual.specs.Emac.{valueOf, nearest, rounded, saturated, accOf, readAcc, readExt}
-use Rattle.manual.specs.Change.{done, store, acting, enterAfter, enter, illegal, privilege, refuse, refused, notCarried, jump, push, reading, reaching, locating, put, putTo, Result, updating}
+use Rattle.manual.specs.Change.{done, store, acting, enterAfter, enter, illegal, privilege, refuse, refused, notCarried, jump, push, reading, reaching, locating, put}
 use Rattle.word.specs.BitLaws.{with-below}
 use Rattle.word.specs.WordLaws.{numbers-few, some-numbers, cut-below, plus-below, minus-below}
 use Rattle.memory.specs.MemoryLaws.{value-lt}
@@ -84,20 +84,25 @@ pub record FitsLong (c : Change) : Type 0 where
   pub second-fits : IsLong (c .second .value)
   pub other-fits : IsLong (otherIn (c .action))
 
--- a number that was read is below k, if it was; an address that was reached is a long
+-- a number is below k, if it was read
 abbrev pub GotBelow : ℕ → Got → Type 0
 GotBelow k (Value v) = v < k
 GotBelow k (NoValue x) = Unit {0}
 
+-- an address is a long, if it was reached
 abbrev pub ReachedFits : Reached → Type 0
 ReachedFits (At got) = GotBelow (2 ^ 32) got
 ReachedFits NoAddress = Unit {0}
 
 -- ---- numbers
 
+-- what holds of two, holds of the one that a test takes
+pub either : {A : Type 0} (P : A → Type 0) (b : Bool) (x y : A) → P x → P y → P (cond b x y)
+either P true x y p q = p
+either P false x y p q = q
+
 pub either-long : (b : Bool) (x y : ℕ) → IsLong x → IsLong y → IsLong (cond b x y)
-either-long true x y p q = p
-either-long false x y p q = q
+either-long b x y p q = either IsLong b x y p q
 
 pub of-size : (z : Size) (v : ℕ) → v < numbers z → IsLong v
 of-size z v h = omega (arith, numbers-few z)
@@ -160,8 +165,7 @@ pub record QuotientFits (q : Quotient) : Type 0 where
   pub remainder-fits : IsLong (q .remainder)
 
 pub either-quotient : (b : Bool) (p q : Quotient) → QuotientFits p → QuotientFits q → QuotientFits (cond b p q)
-either-quotient true p q h k = h
-either-quotient false p q h k = k
+either-quotient b p q h k = either QuotientFits b p q h k
 
 none-fits : QuotientFits noQuotient
 none-fits = record { quotient-fits = omega arith; remainder-fits = omega arith }
@@ -278,8 +282,7 @@ unfolding push writeAddress
 push-fits g sr next v n = store-fits next _ (writeAddress 7 _) noWrite n (minus-below _ 4) no-write-long _ Long v
 
 pub either-fits : (b : Bool) (c d : Change) → FitsLong c → FitsLong d → FitsLong (cond b c d)
-either-fits true c d p q = p
-either-fits false c d p q = q
+either-fits b c d p q = either FitsLong b c d p q
 
 pub reading-fits : (k : ℕ) (got : Got) (f : ℕ → Change) → GotBelow k got → ((v : ℕ) → v < k → FitsLong (f v)) → FitsLong (reading got f)
 reading-fits k (Value v) f h all = all v h
@@ -298,20 +301,13 @@ locating-fits (NoPlace x) c h = refused-fits x
 
 -- ---- registers
 
--- 16 longs, or any number of them
+-- every register is a long
 abbrev pub Longs : List ℕ → Type 0
 Longs g = (i : ℕ) → IsLong (getD g i 0)
 
 pub written-longs : (w : Write) (g : List ℕ) → IsLong (w .value) → Longs g → Longs (written w g)
 unfolding written
-written-longs w g h all = by (ltb (w .to) 16)
-  where
-    open-set : Longs (set g (w .to) (w .value))
-    open-set = set-below g (w .to) (w .value) (2 ^ 32) all h
-
-    by : (b : Bool) → Longs (cond b (set g (w .to) (w .value)) g)
-    by true = open-set
-    by false = all
+written-longs w g h all = either Longs (ltb (w .to) 16) (set g (w .to) (w .value)) g (set-below g (w .to) (w .value) (2 ^ 32) all h) all
 
 module _ (g : List ℕ) (all : Longs g) where
   pub data-long : (r : ℕ) → IsLong (dataOf g r)
@@ -351,9 +347,9 @@ module _ (g : List ℕ) (all : Longs g) where
   put-fits z v (I i) c h f = f
   put-fits z v (NoPlace x) c h f = refused-fits x
 
--- ---- what is read of memory that holds bytes, and of registers that hold longs
+-- ---- what is read of memory that holds bytes
 
-module _ (g : List ℕ) (all : Longs g) (m : Memory) (bytes-in : Bytes (storageOf m)) where
+module _ (m : Memory) (bytes-in : Bytes (storageOf m)) where
   pub load-below : (a : ℕ) (z : Size) → GotBelow (numbers z) (load m a z)
   unfolding load
   load-below a z = by z (access m a (bytes z))
@@ -366,80 +362,48 @@ module _ (g : List ℕ) (all : Longs g) (m : Memory) (bytes-in : Bytes (storageO
       by Word (Not x) = tt
       by Long (Not x) = tt
 
+  pub load-fits : (a : ℕ) (z : Size) (f : ℕ → Change) → ((v : ℕ) → v < numbers z → FitsLong (f v)) → FitsLong (reading (load m a z) f)
+  load-fits a z f h = reading-fits (numbers z) (load m a z) f (load-below a z) h
+
   then-fits : (k : ℕ) (got : Got) (f : ℕ → Place) → GotBelow k got → ((v : ℕ) → v < k → ReachedFits (reached (f v))) → ReachedFits (reached (got then f))
   then-fits k (Value v) f h all = all v h
   then-fits k (NoValue x) f h all = tt
 
-  module _ (pc : ℕ) where
-    word-fits : (f : ℕ → Place) → ((v : ℕ) → ReachedFits (reached (f v))) → ReachedFits (reached (load m pc Word then f))
-    word-fits f h = then-fits (numbers Word) (load m pc Word) f (load-below pc Word) (λ v l. h v)
+  -- and of registers that hold longs
+  module _ (g : List ℕ) (all : Longs g) where
+    pub fetch-below : (place : Place) (z : Size) → GotBelow (numbers z) (fetch g m place z)
+    unfolding fetch
+    fetch-below (D r) z = cut-below z (dataOf g r)
+    fetch-below (A r) Byte = cut-below Byte (addressOf g r)
+    fetch-below (A r) Word = cut-below Word (addressOf g r)
+    fetch-below (A r) Long = cut-below Long (addressOf g r)
+    fetch-below (M a) z = load-below a z
+    fetch-below (I v) z = cut-below z v
+    fetch-below (NoPlace x) z = tt
+
+    pub value-below : (pc : ℕ) (o : Operand) (z : Size) → GotBelow (numbers z) (value g m pc o z)
+    unfolding value
+    value-below pc o z = fetch-below (locate g m pc o z) z
+
+    word-fits : (pc : ℕ) (f : ℕ → Place) → ((v : ℕ) → ReachedFits (reached (f v))) → ReachedFits (reached (load m pc Word then f))
+    word-fits pc f h = then-fits (numbers Word) (load m pc Word) f (load-below pc Word) (λ v l. h v)
 
     -- a mode that has an address has one of 32 bits
-    pub control-fits : (o : Operand) → ReachedFits (control g m pc o)
+    pub control-fits : (pc : ℕ) (o : Operand) → ReachedFits (control g m pc o)
     unfolding control locate indexed
-    control-fits (Data r) = tt
-    control-fits (Address r) = tt
-    control-fits (Indirect r) = address-long g all r
-    control-fits (PostIncrement r) = tt
-    control-fits (PreDecrement r) = tt
-    control-fits (Displaced r) = word-fits _ (λ w. plus-below _ _)
-    control-fits (Indexed r) = word-fits _ (λ w. plus-below _ _)
-    control-fits AbsoluteWord = word-fits _ (λ w. sign-long Word w)
-    control-fits AbsoluteLong = then-fits (2 ^ 32) (load m pc Long) _ (load-below pc Long) (λ w l. l)
-    control-fits PcDisplaced = word-fits _ (λ w. plus-below _ _)
-    control-fits PcIndexed = word-fits _ (λ w. plus-below _ _)
-    control-fits Immediate = tt
-    control-fits Zero = tt
-
-  pub fetch-below : (place : Place) (z : Size) → GotBelow (numbers z) (fetch g m place z)
-  unfolding fetch
-  fetch-below (D r) z = cut-below z (dataOf g r)
-  fetch-below (A r) Byte = cut-below Byte (addressOf g r)
-  fetch-below (A r) Word = cut-below Word (addressOf g r)
-  fetch-below (A r) Long = cut-below Long (addressOf g r)
-  fetch-below (M a) z = load-below a z
-  fetch-below (I v) z = cut-below z v
-  fetch-below (NoPlace x) z = tt
-
-  pub load-fits : (a : ℕ) (z : Size) (f : ℕ → Change) → ((v : ℕ) → v < numbers z → FitsLong (f v)) → FitsLong (reading (load m a z) f)
-  load-fits a z f h = reading-fits (numbers z) (load m a z) f (load-below a z) h
-
-  -- ---- the operand that a word names
-
-  pub reaching-operand : (sr at pc op : ℕ) (f : ℕ → Change) → IsLong at → ((a : ℕ) → IsLong a → FitsLong (f a)) → FitsLong (reaching sr at (control g m pc (operandOf op)) f)
-  reaching-operand sr at pc op f n h = reaching-fits sr at (control g m pc (operandOf op)) f n (control-fits pc (operandOf op)) h
-
-  module _ (pc op : ℕ) (z : Size) where
-    pub source-fits : (f : ℕ → Change) → ((v : ℕ) → v < numbers z → FitsLong (f v)) → FitsLong (reading (source g m pc op z .got) f)
-    unfolding source value
-    source-fits f h = reading-fits (numbers z) (source g m pc op z .got) f (fetch-below (locate g m pc (operandOf op) z) z) h
-
-    pub source-next : IsLong (source g m pc op z .next)
-    unfolding source
-    source-next = plus-below pc _
-
-    pub source-moved : IsLong (source g m pc op z .moved .value)
-    unfolding source
-    source-moved = moved-long g all (operandOf op) z
-
-    pub to-next : IsLong (destination g m pc op z .next)
-    unfolding destinationOf
-    to-next = plus-below pc _
-
-    pub to-moved : IsLong (destination g m pc op z .moved .value)
-    unfolding destinationOf
-    to-moved = moved-long g all (operandOf op) z
-
-    pub put-to-fits : (codes v : ℕ) → IsLong v → FitsLong (putTo g codes (destination g m pc op z) z v)
-    unfolding putTo
-    put-to-fits codes v h = put-fits g all z v _ _ h (done-fits _ codes _ noWrite to-next to-moved no-write-long)
-
-    pub place-fits : (f : ℕ → Change) → ((v : ℕ) → v < numbers z → FitsLong (f v)) → FitsLong (reading (fetch g m (destination g m pc op z .place) z) f)
-    place-fits f h = reading-fits (numbers z) (fetch g m (destination g m pc op z .place) z) f (fetch-below _ z) h
-
-    -- what is made of its value goes back to it
-    pub updating-fits : (f : ℕ → Result) → ((v : ℕ) → v < numbers z → IsLong (f v .value)) → FitsLong (updating g m pc op z f)
-    updating-fits f h = place-fits _ (λ v l. put-to-fits _ _ (h v l))
+    control-fits pc (Data r) = tt
+    control-fits pc (Address r) = tt
+    control-fits pc (Indirect r) = address-long g all r
+    control-fits pc (PostIncrement r) = tt
+    control-fits pc (PreDecrement r) = tt
+    control-fits pc (Displaced r) = word-fits pc _ (λ w. plus-below _ _)
+    control-fits pc (Indexed r) = word-fits pc _ (λ w. plus-below _ _)
+    control-fits pc AbsoluteWord = word-fits pc _ (λ w. sign-long Word w)
+    control-fits pc AbsoluteLong = then-fits (2 ^ 32) (load m pc Long) _ (load-below pc Long) (λ w l. l)
+    control-fits pc PcDisplaced = word-fits pc _ (λ w. plus-below _ _)
+    control-fits pc PcIndexed = word-fits pc _ (λ w. plus-below _ _)
+    control-fits pc Immediate = tt
+    control-fits pc Zero = tt
 
 -- ---- the rows of a line: where each of them fits, and the default does, the one at a place does
 
