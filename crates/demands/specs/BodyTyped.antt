@@ -7,6 +7,7 @@ use native.Mathlib.Omega.{arith}
 use lib.Bits.{and-le-l}
 use lib.Count.{leading-le}
 use lib.Dec.{eqb, ltb}
+use lib.ListN.{getD}
 use Rattle.manual.specs.declared.Size.{Size}
 use Rattle.manual.specs.declared.Size.the-variants.{Byte, Word, Long}
 use Rattle.manual.specs.declared.Emac.{Emac}
@@ -58,13 +59,17 @@ use Rattle.word.specs.BitLaws.{with-below, reversed-below}
 use Rattle.word.specs.WordLaws.{plus-below, minus-below}
 use Rattle.demands.specs.Exact.{Bytes}
 use Rattle.demands.specs.FitLaws as fit
-use Rattle.demands.specs.FitLaws.{IsLong, FitsLong, QuotientFits, Longs, otherIn, end, _&_, listed-fits, either-long, no-write-long, done-fits, store-fits, data-fits, address-fits, general-fits, acting-fits, jump-fits, push-fits, either-fits, illegal-fits, not-carried-fits}
+use Rattle.demands.specs.FitLaws.{IsLong, FitsLong, QuotientFits, Longs, otherIn, AllFit, end, _&_, listed-fits, either-long, no-write-long, done-fits, store-fits, data-fits, address-fits, general-fits, acting-fits, jump-fits, push-fits, either-fits, illegal-fits, not-carried-fits}
 
 module _ (g : List ℕ) (all : Longs g) (at : ℕ) (here : IsLong at) (sr : ℕ) (m : Memory) (bytes-in : Bytes (storageOf m)) (op : ℕ) where
   -- ---- what many bodies end with
 
   illegal-here : FitsLong (illegal at sr)
   illegal-here = illegal-fits at sr here
+
+  -- the row of a line at a place; any other word of the line is illegal
+  row-fits : {l : List Change} → AllFit l → (i : ℕ) → FitsLong (getD l i (illegal at sr))
+  row-fits h i = listed-fits h i (illegal at sr) illegal-here
 
   -- a data register is written, and the next word is next
   to-data : (codes r v : ℕ) → IsLong v → FitsLong (done (plus at 2) codes noWrite (writeData r v))
@@ -172,7 +177,7 @@ module _ (g : List ℕ) (all : Longs g) (at : ℕ) (here : IsLong at) (sr : ℕ)
   pub line0-fits : (n : ℕ) → FitsLong (l0.line0 n g at sr m op)
   unfolding l0.line0
   line0-fits n =
-      listed-fits
+      row-fits
       (bitrev-fits
       & byterev-fits
       & ff1-fits
@@ -188,19 +193,19 @@ module _ (g : List ℕ) (all : Longs g) (at : ℕ) (here : IsLong at) (sr : ℕ)
       & by-register
       & illegal-here
       & end)
-      (placeIn (firstRow 0) n) (illegal at sr) illegal-here
+      (placeIn (firstRow 0) n)
 
   -- ---- lines 1, 2 and 3
 
   move-fits : (z : Size) → FitsLong (moves.move z g at sr m op)
   unfolding moves.move destinationOf
   move-fits z =
-      let from : Write = source g m (plus at 2) op z .moved in
+      let moving : Write = source g m (plus at 2) op z .moved in
       let o : Operand = operand (upperMode op) (upper op) in
-      let longs : Longs (written from g) = fit.written-longs from g (moved-long (plus at 2) z) all in
+      let longs : Longs (written moving g) = fit.written-longs moving g (moved-long (plus at 2) z) all in
       source-fits (plus at 2) z _
-      (λ v h. fit.put-fits (written from g) longs z v _ _ (fit.of-size z v h)
-      (done-fits _ _ from _ (plus-below _ _) (moved-long (plus at 2) z) (fit.moved-long (written from g) longs o z)))
+      (λ v h. fit.put-fits (written moving g) longs z v _ _ (fit.of-size z v h)
+      (done-fits _ _ moving _ (plus-below _ _) (moved-long (plus at 2) z) (fit.moved-long (written moving g) longs o z)))
 
   move-address : (z : Size) → FitsLong (moves.movea z g at sr m op)
   unfolding moves.movea
@@ -208,7 +213,7 @@ module _ (g : List ℕ) (all : Longs g) (at : ℕ) (here : IsLong at) (sr : ℕ)
 
   pub moves-fit : (first : ℕ) (z : Size) (n : ℕ) → FitsLong (moves.moves first z n g at sr m op)
   unfolding moves.moves
-  moves-fit first z n = listed-fits (move-address z & move-fits z & end) (placeIn first n) (illegal at sr) illegal-here
+  moves-fit first z n = row-fits (move-address z & move-fits z & end) (placeIn first n)
 
   -- ---- line 4
 
@@ -406,7 +411,7 @@ module _ (g : List ℕ) (all : Longs g) (at : ℕ) (here : IsLong at) (sr : ℕ)
   pub line4-fits : (other n : ℕ) → IsLong other → FitsLong (l4.line4 n g at sr other m op)
   unfolding l4.line4
   line4-fits other n h =
-      listed-fits
+      row-fits
       (next-fits
       & stop-fits
       & rte-fits
@@ -448,7 +453,7 @@ module _ (g : List ℕ) (all : Longs g) (at : ℕ) (here : IsLong at) (sr : ℕ)
       & lea-fits
       & illegal-here
       & end)
-      (placeIn (firstRow 4) n) (illegal at sr) illegal-here
+      (placeIn (firstRow 4) n)
 
   -- ---- lines 9 and D, and 5
 
@@ -482,7 +487,7 @@ module _ (g : List ℕ) (all : Longs g) (at : ℕ) (here : IsLong at) (sr : ℕ)
   pub sums-fit : (first : ℕ) (add : Bool) (n : ℕ) → FitsLong (l9.sums first add n g at sr m op)
   unfolding l9.sums
   sums-fit first add n =
-      listed-fits
+      row-fits
       (add-extended add
       & add-extended add
       & add-extended add
@@ -494,7 +499,7 @@ module _ (g : List ℕ) (all : Longs g) (at : ℕ) (here : IsLong at) (sr : ℕ)
       & add-to-data add
       & add-to-memory add
       & end)
-      (placeIn first n) (illegal at sr) illegal-here
+      (placeIn first n)
 
   tpf-fits : (n : ℕ) → FitsLong (l5.tpf n at sr)
   unfolding l5.tpf
@@ -515,7 +520,7 @@ module _ (g : List ℕ) (all : Longs g) (at : ℕ) (here : IsLong at) (sr : ℕ)
   pub line5-fits : (n : ℕ) → FitsLong (l5.line5 n g at sr m op)
   unfolding l5.line5
   line5-fits n =
-      listed-fits
+      row-fits
       (tpf-fits 2
       & tpf-fits 4
       & tpf-fits 0
@@ -526,7 +531,7 @@ module _ (g : List ℕ) (all : Longs g) (at : ℕ) (here : IsLong at) (sr : ℕ)
       & illegal-here
       & quick-fits
       & end)
-      (placeIn (firstRow 5) n) (illegal at sr) illegal-here
+      (placeIn (firstRow 5) n)
 
   -- ---- lines 6 and 7
 
@@ -554,7 +559,7 @@ module _ (g : List ℕ) (all : Longs g) (at : ℕ) (here : IsLong at) (sr : ℕ)
 
   pub line6-fits : (n : ℕ) → FitsLong (l6.line6 n g at sr m op)
   unfolding l6.line6
-  line6-fits n = listed-fits (bra-fits & bsr-fits & bcc-fits & end) (placeIn (firstRow 6) n) (illegal at sr) illegal-here
+  line6-fits n = row-fits (bra-fits & bsr-fits & bcc-fits & end) (placeIn (firstRow 6) n)
 
   move-signed : FitsLong (l7.mvs g at sr m op)
   unfolding l7.mvs
@@ -570,7 +575,7 @@ module _ (g : List ℕ) (all : Longs g) (at : ℕ) (here : IsLong at) (sr : ℕ)
 
   pub line7-fits : (n : ℕ) → FitsLong (l7.line7 n g at sr m op)
   unfolding l7.line7
-  line7-fits n = listed-fits (move-signed & move-zero & move-quick & end) (placeIn (firstRow 7) n) (illegal at sr) illegal-here
+  line7-fits n = row-fits (move-signed & move-zero & move-quick & end) (placeIn (firstRow 7) n)
 
   -- ---- lines B, C, E and F
 
@@ -589,7 +594,7 @@ module _ (g : List ℕ) (all : Longs g) (at : ℕ) (here : IsLong at) (sr : ℕ)
   pub lineB-fits : (n : ℕ) → FitsLong (lb.lineB n g at sr m op)
   unfolding lb.lineB
   lineB-fits n =
-      listed-fits (compare-address Word & compare-address Long & compare-data & logic-to-place Eor & end) (placeIn (firstRow 0xB) n) (illegal at sr) illegal-here
+      row-fits (compare-address Word & compare-address Long & compare-data & logic-to-place Eor & end) (placeIn (firstRow 0xB) n)
 
   logic-to-data : (l : Logic) → FitsLong (lc.logicToData l g at sr m op)
   unfolding lc.logicToData
@@ -609,7 +614,7 @@ module _ (g : List ℕ) (all : Longs g) (at : ℕ) (here : IsLong at) (sr : ℕ)
   pub lineC-fits : (n : ℕ) → FitsLong (lc.lineC n g at sr m op)
   unfolding lc.lineC
   lineC-fits n =
-      listed-fits (multiply-words false & multiply-words true & logic-to-data And & logic-to-place And & end) (placeIn (firstRow 0xC) n) (illegal at sr) illegal-here
+      row-fits (multiply-words false & multiply-words true & logic-to-data And & logic-to-place And & end) (placeIn (firstRow 0xC) n)
 
   shifted-long : (left signs : Bool) (v n : ℕ) → IsLong v → IsLong (cond left (shiftedLeft v n) (cond signs (signedShiftedRight v n) (shiftedRight v n)) .value)
   shifted-long true signs v n h = fit.left-long v n
@@ -622,7 +627,7 @@ module _ (g : List ℕ) (all : Longs g) (at : ℕ) (here : IsLong at) (sr : ℕ)
 
   pub lineE-fits : (n : ℕ) → FitsLong (le.lineE n g at sr op)
   unfolding le.lineE
-  lineE-fits n = listed-fits (shift-fits true & shift-fits false & illegal-here & end) (placeIn (firstRow 0xE) n) (illegal at sr) illegal-here
+  lineE-fits n = row-fits (shift-fits true & shift-fits false & illegal-here & end) (placeIn (firstRow 0xE) n)
 
   debug-ends : (pc : ℕ) (got : Reached) (size skipped : ℕ) → FitsLong (lf.debugEnds sr pc got size skipped)
   debug-ends pc (At (Value a)) size skipped = jump-on _ skipped
@@ -646,7 +651,7 @@ module _ (g : List ℕ) (all : Longs g) (at : ℕ) (here : IsLong at) (sr : ℕ)
   pub lineF-fits : (n : ℕ) → FitsLong (lf.lineF n g at sr m op)
   unfolding lf.lineF
   lineF-fits n =
-      listed-fits (write-debug & cache-line & debug-data & fit.enter-fits sr 11 at here & end) (placeIn (firstRow 0xF) n) (illegal at sr) illegal-here
+      row-fits (write-debug & cache-line & debug-data & fit.enter-fits sr 11 at here & end) (placeIn (firstRow 0xF) n)
 
   -- ---- line A
 
@@ -729,7 +734,7 @@ module _ (g : List ℕ) (all : Longs g) (at : ℕ) (here : IsLong at) (sr : ℕ)
   pub lineA-fits : (e : Emac) (n : ℕ) → IsLong (e .macsr) → IsLong (e .mask) → FitsLong (la.lineA n g at sr e m op)
   unfolding la.lineA
   lineA-fits e n status mask =
-      listed-fits
+      row-fits
       (macsr-to-ccr (e .macsr)
       & acc-to-acc
       & to-general (e .macsr) status
@@ -744,7 +749,7 @@ module _ (g : List ℕ) (all : Longs g) (at : ℕ) (here : IsLong at) (sr : ℕ)
       & mac-fits (e .mask)
       & unassigned-fits
       & end)
-      (placeIn (firstRow 0xA) n) (illegal at sr) illegal-here
+      (placeIn (firstRow 0xA) n)
 
   -- ---- every instruction
 
@@ -752,7 +757,7 @@ module _ (g : List ℕ) (all : Longs g) (at : ℕ) (here : IsLong at) (sr : ℕ)
   unfolding instruction
   instruction-fits other e o status mask =
       let n : ℕ = rowOf op in
-      listed-fits
+      row-fits
       (line0-fits n
       & moves-fit (firstRow 1) Byte n
       & moves-fit (firstRow 2) Long n
@@ -770,7 +775,7 @@ module _ (g : List ℕ) (all : Longs g) (at : ℕ) (here : IsLong at) (sr : ℕ)
       & lineE-fits n
       & lineF-fits n
       & end)
-      (line op) (illegal at sr) illegal-here
+      (line op)
 
 -- what a step is to do, from the registers and the unit of a state
 pub execute-fits : (g : List ℕ) (at sr other : ℕ) (e : Emac) (m : Memory) → Longs g → IsLong at → IsLong other → IsLong (e .macsr) → IsLong (e .mask) → Bytes (storageOf m)

@@ -1,9 +1,8 @@
 -- Every call keeps what the types say of a state and of storage: each number fits its field.
 --
 -- Of a state (`Typed`): 16 registers, PC, the other stack pointer, VBR, CACR and MASK of 32 bits, SR of 16 bits, and four accumulators.
--- Of storage (`Bytes`): every number is below 256. MACSR and the accumulators' numbers stay in their ranges where they are: `Admits`
--- has that. So what the theorems ask of a state and of storage holds again after every call, and of every state to start from.
--- Assumes nothing.
+-- Of storage (`Bytes`): every number is below 256. So what the theorems ask of a state and of storage holds of every state to start from,
+-- and again after every call. `Admits` has that MACSR and the accumulators' numbers stay in their ranges. Assumes nothing.
 use Prim.Native.Nat.{ℕ, zero, suc, _+_, _/_, _%_, _^_}
 use mathlib.Core.Path.{_≡_, refl, ap, _∙_}
 use mathlib.Core.Bool.{Bool, true, false, cond, _&&_}
@@ -57,31 +56,40 @@ use Rattle.demands.specs.FitLaws.{either, IsLong, Longs, otherIn, FitsLo
 use Rattle.demands.specs.BodyTyped.{execute-fits}
 
 pub record KeepsTyped : Type 0 where
-  -- a step, a run of any budget, an entry and a return: what they read becomes a register or the program counter
+  -- a step
   pub by-step : (s : Cpu) (l : Lent) → Typed s → Bytes (l .storage) → Typed (step s l .stepped .cpu)
+  -- a run of any budget
   pub by-run : (budget : ℕ) (s : Cpu) (l : Lent) → Typed s → Bytes (l .storage) → Typed (run budget s l .ran .cpu)
+  -- an exception of any vector, at any level, with any number as the PC that its frame gets
   pub by-exception : (s : Cpu) (l : Lent) (vector pc : ℕ) (level : Level) → Typed s → Bytes (l .storage) → Typed (exception s l vector pc level .stepped .cpu)
+  -- an interrupt
   pub by-interrupt : (s : Cpu) (l : Lent) (vector level : ℕ) → Typed s → Bytes (l .storage) → Typed (interrupt s l vector level .stepped .cpu)
+  -- a return
   pub by-rte : (s : Cpu) (l : Lent) → Typed s → Bytes (l .storage) → Typed (rte s l .stepped .cpu)
-  -- the calls on the stack, the status register and the unit, whatever is given and whatever storage holds
+  -- a push and a pop, which move A7, whatever storage holds
   pub by-push32 : (s : Cpu) (l : Lent) (v : ℕ) → Typed s → Typed (push32 s l v .stepped .cpu)
   pub by-pop32 : (s : Cpu) (l : Lent) → Typed s → Typed (pop32 s l .cpu)
+  -- a new status register, of any number
   pub by-set-sr : (s : Cpu) (v : ℕ) → Typed s → Typed (setSrCall s v .cpu)
+  -- the calls on the unit, with any numbers
   pub by-acc-set : (s : Cpu) (i v : ℕ) → Typed s → Typed (accSetCall s i v .cpu)
   pub by-set-acc-phys : (s : Cpu) (i acc ext : ℕ) → Typed s → Typed (setAccPhysCall s i acc ext .cpu)
   pub by-set-macsr : (s : Cpu) (v : ℕ) → Typed s → Typed (setMacsrCall s v .cpu)
-  -- the states to start from: the fresh one, a block's and an image's
+  -- the states to start from: the fresh one, the one that a block says, and an image's, whether taken or refused
   pub fresh-state : Typed fresh
   pub by-read-block : (b : List ℕ) → Bytes b → Typed (readBlock b .cpu)
   pub by-load-image : (f : List ℕ) (m : Storage) → Bytes f → Typed (loadImage f m .cpu)
 
--- and the calls that store leave bytes in storage, so that the next call finds what it needs
+-- every call that may store leaves bytes in storage, whatever the state
 pub record KeepsBytes : Type 0 where
+  -- a step, and a run of any budget
   pub by-step : (s : Cpu) (l : Lent) → Bytes (l .storage) → Bytes (step s l .storage)
   pub by-run : (budget : ℕ) (s : Cpu) (l : Lent) → Bytes (l .storage) → Bytes (run budget s l .storage)
+  -- an entry, which stores a frame, and a return, which stores nothing
   pub by-exception : (s : Cpu) (l : Lent) (vector pc : ℕ) (level : Level) → Bytes (l .storage) → Bytes (exception s l vector pc level .storage)
   pub by-interrupt : (s : Cpu) (l : Lent) (vector level : ℕ) → Bytes (l .storage) → Bytes (interrupt s l vector level .storage)
   pub by-rte : (s : Cpu) (l : Lent) → Bytes (l .storage) → Bytes (rte s l .storage)
+  -- a push of any number
   pub by-push32 : (s : Cpu) (l : Lent) (v : ℕ) → Bytes (l .storage) → Bytes (push32 s l v .storage)
 
 -- ---- the proofs
