@@ -11,6 +11,9 @@ pub mod ValueLaws
 pub mod Nesting
 pub mod Refusals
 pub mod Runs
+pub mod FitLaws
+pub mod BodyTyped
+pub mod TypedLaws
 pub mod PartLaws
 pub mod BodyLaws
 pub mod InstructionLaws

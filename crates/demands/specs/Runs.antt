@@ -91,7 +91,7 @@ steps-many (suc left) s l = by (isDone (step s l .stepped .reply)) refl (steps-m
 -- ---- what every store keeps of storage, a step keeps, and so does a run
 
 module _ (K : Storage → Type 0) (keeps : (b : Storage) (a n v : ℕ) → K b → K (storeAt b a n v)) where
-  stored-kept : (m : Memory) (a : ℕ) (z : Size) (v : ℕ) → K (storageOf m) → K (stored m a z v)
+  pub stored-kept : (m : Memory) (a : ℕ) (z : Size) (v : ℕ) → K (storageOf m) → K (stored m a z v)
   unfolding stored
   stored-kept m a z v h = by (access m a (bytes z))
     where
@@ -117,7 +117,7 @@ module _ (K : Storage → Type 0) (keeps : (b : Storage) (a n v : ℕ) → K b �
   either-kept false x y p q = q
 
   module _ (given : Cpu) (m : Memory) (h : K (storageOf m)) where
-    entered-kept : (s : Cpu) (level : Level) (vector pc : ℕ) → Keeps (entered given s level vector pc m)
+    pub entered-kept : (s : Cpu) (level : Level) (vector pc : ℕ) → Keeps (entered given s level vector pc m)
     unfolding entered
     entered-kept s level vector pc =
         let t : Cpu = setSr (handlerSr level (s .sr)) s in
@@ -127,7 +127,7 @@ module _ (K : Storage → Type 0) (keeps : (b : Storage) (a n v : ℕ) → K b �
         accessing-all Keeps given m (λ x. h) (access m (vectorPlace (s .vbr) vector) 4) _ λ table.
         keeps _ low 4 _ (keeps (storageOf m) high 4 pc h)
 
-    returned-kept : (s : Cpu) → Keeps (returned given s m)
+    pub returned-kept : (s : Cpu) → Keeps (returned given s m)
     unfolding returned
     returned-kept s =
         let sp : ℕ = addressOf (s .r) 7 in
