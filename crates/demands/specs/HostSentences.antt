@@ -4,15 +4,14 @@
 --
 -- After reply 0 the block at exit is read, with 0, as the state of the call, and memory is the call's. After a run that did steps, whatever
 -- its reply, the block is read as the state after that many steps, and memory is that after them. (Host has what is left otherwise: the
--- given bytes.) The theorem is given, as four arguments, that the calls keep what the types say of a state. Assumes nothing.
-use Prim.Native.Nat.{ℕ, zero, suc, _+_, _*_, _/_, _^_, _<_}
+-- given bytes.) Assumes nothing.
+use Prim.Native.Nat.{ℕ, _+_, _*_, _/_, _<_}
 use mathlib.Core.Path.{_≡_, refl, ap, _∙_}
 use mathlib.Core.Bool.{Bool, true, false, cond}
 use mathlib.Core.List.{List}
 use mathlib.Core.Logic.{inl}
 use native.Mathlib.Omega.{arith}
 use lib.Dec.{eqb}
-use lib.ListN.{getD}
 use borrow.Author.Tests.{ne-eqb}
 use Rattle.manual.specs.declared.Cpu.{Cpu}
 use Rattle.manual.specs.declared.Level.{Level}
@@ -22,21 +21,20 @@ use Rattle.manual.specs.Reply.{numberOf, isDone, Outcome}
 use Rattle.manual.specs.Admitted.{admitted}
 use Rattle.manual.specs.Lent.{Lent, lentOn}
 use Rattle.manual.specs.Exceptions.{exception, interrupt, rte}
-use Rattle.manual.specs.Block.{longsAt, emacAt, stateAt, readBlock, storeBlock}
+use Rattle.manual.specs.Block.{readBlock, storeBlock}
 use Rattle.instructions.specs.Step.{step}
 use Rattle.instructions.specs.Run.{RunOutcome, run}
 use Rattle.instructions.specs.HostCalls.{Called, called, blockReply, blockRefused, blockAfter, onBlock, exceptionOn, interruptOn, rteOn, stepOn, runOn}
-use Rattle.memory.specs.MemoryLaws.{value-lt}
 use Rattle.block.specs.Typed.{Typed}
 use Rattle.block.specs.ReadBack.{read-back}
-use Rattle.demands.specs.Steps.{Steps, none, one-more}
+use Rattle.demands.specs.Steps.{Steps}
 use Rattle.demands.specs.Refusals.{is-done, done-is, is-refused}
-use Rattle.demands.specs.Runs.{runs, step-storage}
+use Rattle.demands.specs.Runs.{runs}
+use Rattle.demands.specs.TypedLaws.{keeps-typed}
 use Rattle.demands.specs.Admits.{admits}
-use Rattle.demands.specs.ValueLaws.{store-bytes}
 use Rattle.demands.specs.Exact.{Bytes, numbered}
 use Rattle.demands.specs.ExactLaws as exact
-use Rattle.demands.specs.Host.{replyIn, says, host-replies, host-refusals, number-small}
+use Rattle.demands.specs.Host.{replyIn, host-replies, host-refusals, number-small}
 
 -- the read of a block is done, and gives this state
 abbrev pub Holds : List ℕ → Cpu → Type 0
@@ -65,7 +63,7 @@ pub record HostSentences : Type 0 where
   pub after-step : (b : List ℕ) (l : Lent) → Bytes b → Bytes (l .storage) → replyIn (stepOn b l) ≡ 0
       → let s : Cpu = readBlock b .cpu in
       DoneOn b s (step s l) (stepOn b l) × (stepOn b l .answer / 256 ≡ step s l .stepped .vector)
-  pub after-exception : (b : List ℕ) (l : Lent) (vector pc : ℕ) (level : Level) → pc < 2 ^ 32 → Bytes b → Bytes (l .storage)
+  pub after-exception : (b : List ℕ) (l : Lent) (vector pc : ℕ) (level : Level) → Bytes b → Bytes (l .storage)
       → replyIn (exceptionOn b l vector pc level) ≡ 0
       → let s : Cpu = readBlock b .cpu in
       DoneOn b s (exception s l vector pc level) (exceptionOn b l vector pc level)
@@ -85,29 +83,6 @@ pub record HostSentences : Type 0 where
 
 -- ---- the proofs
 
--- ---- the state that is read from bytes is what its types say
-
-module _ (b : List ℕ) (bytes : Bytes b) where
-  longs-below : (n a i : ℕ) → getD (longsAt b n a) i 0 < 2 ^ 32
-  unfolding longsAt
-  longs-below zero a i = omega arith
-  longs-below (suc n) a zero = value-lt b a 4 bytes
-  longs-below (suc n) a (suc i) = longs-below n (a + 4) i
-
-  said-typed : Typed (stateAt b)
-  unfolding stateAt emacAt longsAt
-  said-typed = record {
-    sixteen = refl;
-    registers = longs-below 16 5;
-    pc-long = value-lt b 69 4 bytes;
-    sr-word = value-lt b 73 2 bytes;
-    other-long = value-lt b 75 4 bytes;
-    vbr-long = value-lt b 79 4 bytes;
-    cacr-long = value-lt b 83 4 bytes;
-    mask-long = value-lt b 91 4 bytes;
-    four = refl;
-  }
-
 -- ---- a block that was read, and is stored in
 
 module _ (b : List ℕ) (e : numberOf (readBlock b .reply) ≡ 0) where
@@ -116,9 +91,6 @@ module _ (b : List ℕ) (e : numberOf (readBlock b .reply) ≡ 0) where
 
   was-held : Holds b (readBlock b .cpu)
   was-held = ap (λ (x : Reply). record { reply = x; cpu = readBlock b .cpu }) was-done
-
-  read-typed : Bytes b → Typed (readBlock b .cpu)
-  read-typed bytes = rw (says b e) (said-typed b bytes)
 
   now-holds : (s : Cpu) → admitted s ≡ true → Typed s → Holds (storeBlock s b .bytes) s
   unfolding storeBlock
@@ -138,98 +110,89 @@ module _ (b : List ℕ) (e : numberOf (readBlock b .reply) ≡ 0) where
       memory = ap (λ (c : Called). c .storage) left;
     }
 
--- ---- the calls. That they keep what the types say of a state is handed in
+-- ---- the calls
 
-module _
-    (typed-step : (s : Cpu) (l : Lent) → Typed s → Bytes (l .storage) → Typed (step s l .stepped .cpu))
-    (typed-exception : (s : Cpu) (l : Lent) (vector pc : ℕ) (level : Level) → pc < 2 ^ 32 → Typed s → Bytes (l .storage) → Typed (exception s l vector pc level .stepped .cpu))
-    (typed-interrupt : (s : Cpu) (l : Lent) (vector level : ℕ) → Typed s → Bytes (l .storage) → Typed (interrupt s l vector level .stepped .cpu))
-    (typed-rte : (s : Cpu) (l : Lent) → Typed s → Bytes (l .storage) → Typed (rte s l .stepped .cpu)) where
-  module _ (b : List ℕ) (l : Lent) (bytes : Bytes b) (all : Bytes (l .storage)) where
-    abbrev s : Cpu
-    s = readBlock b .cpu
+module _ (b : List ℕ) (l : Lent) (bytes : Bytes b) (all : Bytes (l .storage)) where
+  abbrev s : Cpu
+  s = readBlock b .cpu
 
-    s-admitted : admitted s ≡ true
-    s-admitted = admits .by-read-block b
+  s-admitted : admitted s ≡ true
+  s-admitted = admits .by-read-block b
 
-    after-step : replyIn (stepOn b l) ≡ 0 → DoneOn b s (step s l) (stepOn b l) × (stepOn b l .answer / 256 ≡ step s l .stepped .vector)
-    unfolding stepOn
-    after-step e =
-        let g : (numberOf (readBlock b .reply) ≡ 0) × (numbered (step s l) ≡ 0) = host-replies .of-step b l .gives 0 (inl refl) .0 e in (
-          done-on b (g .0) 256 l (step s l) (g .1) (admits .by-step s l s-admitted) (typed-step s l (read-typed b (g .0) bytes) all),
-          ap (λ (c : Called). c .answer / 256) (left b (g .0) 256 l (step s l) (g .1)) ∙ omega (arith, g .1),
-        )
+  after-step : replyIn (stepOn b l) ≡ 0 → DoneOn b s (step s l) (stepOn b l) × (stepOn b l .answer / 256 ≡ step s l .stepped .vector)
+  unfolding stepOn
+  after-step e =
+      let g : (numberOf (readBlock b .reply) ≡ 0) × (numbered (step s l) ≡ 0) = host-replies .of-step b l .gives 0 (inl refl) .0 e in (
+        done-on b (g .0) 256 l (step s l) (g .1) (admits .by-step s l s-admitted) (keeps-typed .by-step s l (keeps-typed .by-read-block b bytes) all),
+        ap (λ (c : Called). c .answer / 256) (left b (g .0) 256 l (step s l) (g .1)) ∙ omega (arith, g .1),
+      )
 
-    after-exception : (vector pc : ℕ) (level : Level) → pc < 2 ^ 32 → replyIn (exceptionOn b l vector pc level) ≡ 0
-        → DoneOn b s (exception s l vector pc level) (exceptionOn b l vector pc level)
-    unfolding exceptionOn
-    after-exception vector pc level small e =
-        let g : (numberOf (readBlock b .reply) ≡ 0) × (numbered (exception s l vector pc level) ≡ 0) = host-replies .of-exception b l vector pc level .gives 0 (inl refl) .0 e in
-        done-on b (g .0) 0 l (exception s l vector pc level) (g .1) (admits .by-exception s l vector pc level s-admitted)
-        (typed-exception s l vector pc level small (read-typed b (g .0) bytes) all)
+  after-exception : (vector pc : ℕ) (level : Level) → replyIn (exceptionOn b l vector pc level) ≡ 0
+      → DoneOn b s (exception s l vector pc level) (exceptionOn b l vector pc level)
+  unfolding exceptionOn
+  after-exception vector pc level e =
+      let g : (numberOf (readBlock b .reply) ≡ 0) × (numbered (exception s l vector pc level) ≡ 0) = host-replies .of-exception b l vector pc level .gives 0 (inl refl) .0 e in
+      done-on b (g .0) 0 l (exception s l vector pc level) (g .1) (admits .by-exception s l vector pc level s-admitted)
+      (keeps-typed .by-exception s l vector pc level (keeps-typed .by-read-block b bytes) all)
 
-    after-interrupt : (vector level : ℕ) → replyIn (interruptOn b l vector level) ≡ 0 → DoneOn b s (interrupt s l vector level) (interruptOn b l vector level)
-    unfolding interruptOn
-    after-interrupt vector level e =
-        let g : (numberOf (readBlock b .reply) ≡ 0) × (numbered (interrupt s l vector level) ≡ 0) = host-replies .of-interrupt b l vector level .gives 0 (inl refl) .0 e in
-        done-on b (g .0) 0 l (interrupt s l vector level) (g .1) (admits .by-interrupt s l vector level s-admitted)
-        (typed-interrupt s l vector level (read-typed b (g .0) bytes) all)
+  after-interrupt : (vector level : ℕ) → replyIn (interruptOn b l vector level) ≡ 0 → DoneOn b s (interrupt s l vector level) (interruptOn b l vector level)
+  unfolding interruptOn
+  after-interrupt vector level e =
+      let g : (numberOf (readBlock b .reply) ≡ 0) × (numbered (interrupt s l vector level) ≡ 0) = host-replies .of-interrupt b l vector level .gives 0 (inl refl) .0 e in
+      done-on b (g .0) 0 l (interrupt s l vector level) (g .1) (admits .by-interrupt s l vector level s-admitted)
+      (keeps-typed .by-interrupt s l vector level (keeps-typed .by-read-block b bytes) all)
 
-    after-rte : replyIn (rteOn b l) ≡ 0 → DoneOn b s (rte s l) (rteOn b l)
-    unfolding rteOn
-    after-rte e =
-        let g : (numberOf (readBlock b .reply) ≡ 0) × (numbered (rte s l) ≡ 0) = host-replies .of-rte b l .gives 0 (inl refl) .0 e in
-        done-on b (g .0) 0 l (rte s l) (g .1) (admits .by-rte s l s-admitted) (typed-rte s l (read-typed b (g .0) bytes) all)
+  after-rte : replyIn (rteOn b l) ≡ 0 → DoneOn b s (rte s l) (rteOn b l)
+  unfolding rteOn
+  after-rte e =
+      let g : (numberOf (readBlock b .reply) ≡ 0) × (numbered (rte s l) ≡ 0) = host-replies .of-rte b l .gives 0 (inl refl) .0 e in
+      done-on b (g .0) 0 l (rte s l) (g .1) (admits .by-rte s l s-admitted) (keeps-typed .by-rte s l (keeps-typed .by-read-block b bytes) all)
 
-  -- ---- a run
+-- ---- a run
 
-  steps-typed : {n : ℕ} {s s′ : Cpu} {l l′ : Lent} → Steps n s l s′ l′ → Typed s → Bytes (l .storage) → Typed s′
-  steps-typed none typed all = typed
-  steps-typed (one-more {n} {s} {s′} {l} {l′} d h) typed all = steps-typed h (typed-step s l typed all) (step-storage Bytes store-bytes s l all)
+module _ (b : List ℕ) (l : Lent) (budget : ℕ) where
+  abbrev o : RunOutcome
+  o = run budget (readBlock b .cpu) l
 
-  module _ (b : List ℕ) (l : Lent) (budget : ℕ) where
-    abbrev o : RunOutcome
-    o = run budget (readBlock b .cpu) l
+  abbrev done : Called
+  done = called (numberOf (o .ran .reply) + 256 * o .ran .count) (cond (eqb (o .ran .count) 0) b (storeBlock (o .ran .cpu) b .bytes)) (o .storage)
 
-    abbrev done : Called
-    done = called (numberOf (o .ran .reply) + 256 * o .ran .count) (cond (eqb (o .ran .count) 0) b (storeBlock (o .ran .cpu) b .bytes)) (o .storage)
+  counted : done .answer / 256 ≡ o .ran .count
+  counted = omega (arith, number-small (o .ran .reply))
 
-    counted : done .answer / 256 ≡ o .ran .count
-    counted = omega (arith, number-small (o .ran .reply))
+  refused-few : blockRefused (readBlock b) b l .answer / 256 ≡ 0
+  refused-few = omega (arith, number-small (blockReply (readBlock b .reply) l))
 
-    refused-few : blockRefused (readBlock b) b l .answer / 256 ≡ 0
-    refused-few = omega (arith, number-small (blockReply (readBlock b .reply) l))
+  after-run : Bytes b → Bytes (l .storage) → 0 < runOn b l budget .answer / 256 → RanOn b l (readBlock b .cpu) (runOn b l budget)
+  unfolding runOn
+  after-run bytes all = by (isDone (readBlock b .reply)) refl
+    where
+      by : (t : Bool) → isDone (readBlock b .reply) ≡ t → 0 < cond t done (blockRefused (readBlock b) b l) .answer / 256
+          → RanOn b l (readBlock b .cpu) (cond t done (blockRefused (readBlock b) b l))
+      by true e h =
+          let z : numberOf (readBlock b .reply) ≡ 0 = ap numberOf (is-done (readBlock b .reply) e) in
+          record {
+            held = was-held b z;
+            after = o .ran .cpu;
+            that-many = rw counted (runs .that-many budget (readBlock b .cpu) l);
+            holds = rw (ne-eqb (o .ran .count) 0 (λ k. omega (arith, counted)))
+                (now-holds b z (o .ran .cpu) (admits .by-run budget (readBlock b .cpu) l (admits .by-read-block b))
+                (keeps-typed .by-run budget (readBlock b .cpu) l (keeps-typed .by-read-block b bytes) all));
+          }
+      by false e h = absurd (omega (arith, refused-few))
 
-    after-run : Bytes b → Bytes (l .storage) → 0 < runOn b l budget .answer / 256 → RanOn b l (readBlock b .cpu) (runOn b l budget)
-    unfolding runOn
-    after-run bytes all = by (isDone (readBlock b .reply)) refl
-      where
-        by : (t : Bool) → isDone (readBlock b .reply) ≡ t → 0 < cond t done (blockRefused (readBlock b) b l) .answer / 256
-            → RanOn b l (readBlock b .cpu) (cond t done (blockRefused (readBlock b) b l))
-        by true e h =
-            let z : numberOf (readBlock b .reply) ≡ 0 = ap numberOf (is-done (readBlock b .reply) e) in
-            record {
-              held = was-held b z;
-              after = o .ran .cpu;
-              that-many = rw counted (runs .that-many budget (readBlock b .cpu) l);
-              holds = rw (ne-eqb (o .ran .count) 0 (λ k. omega (arith, counted)))
-                  (now-holds b z (o .ran .cpu) (admits .by-run budget (readBlock b .cpu) l (admits .by-read-block b))
-                  (steps-typed (runs .that-many budget (readBlock b .cpu) l) (read-typed b z bytes) all));
-            }
-        by false e h = absurd (omega (arith, refused-few))
+  after-refused : (readBlock b .reply ≡ Done → ⊥)
+      → (runOn b l budget .block ≡ b) × (runOn b l budget .storage ≡ l .storage) × (runOn b l budget .answer / 256 ≡ 0)
+  unfolding runOn
+  after-refused n = rw (is-refused (readBlock b .reply) (λ e. n (done-is (readBlock b .reply) e))) (refl, refl, refused-few)
 
-    after-refused : (readBlock b .reply ≡ Done → ⊥)
-        → (runOn b l budget .block ≡ b) × (runOn b l budget .storage ≡ l .storage) × (runOn b l budget .answer / 256 ≡ 0)
-    unfolding runOn
-    after-refused n = rw (is-refused (readBlock b .reply) (λ e. n (done-is (readBlock b .reply) e))) (refl, refl, refused-few)
-
-  pub host-sentences : HostSentences
-  host-sentences = record {
-    after-step = after-step;
-    after-exception = λ b l vector pc level small bytes all. after-exception b l bytes all vector pc level small;
-    after-interrupt = λ b l vector level bytes all. after-interrupt b l bytes all vector level;
-    after-rte = after-rte;
-    after-run = after-run;
-    after-none = host-refusals .of-run;
-    after-refused = after-refused;
-  }
+pub host-sentences : HostSentences
+host-sentences = record {
+  after-step = after-step;
+  after-exception = λ b l vector pc level bytes all. after-exception b l bytes all vector pc level;
+  after-interrupt = λ b l vector level bytes all. after-interrupt b l bytes all vector level;
+  after-rte = after-rte;
+  after-run = after-run;
+  after-none = host-refusals .of-run;
+  after-refused = after-refused;
+}

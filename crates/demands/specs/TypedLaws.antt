@@ -51,7 +51,8 @@ use Rattle.demands.specs.Exact.{Bytes, Ready}
 use Rattle.demands.specs.AccessLaws.{accessing-all, taking-all}
 use Rattle.demands.specs.EntryLaws.{swaps}
 use Rattle.demands.specs.ValueLaws.{set-below, store-bytes, status-word, registers-typed, pc-typed, sr-typed, stopped-typed, address-typed, other-typed, emac-typed, after-typed}
-use Rattle.demands.specs.Runs.{Steps, none, one-more, stored-kept, entered-kept, returned-kept, step-storage, runs}
+use Rattle.demands.specs.Steps.{Steps, none, one-more}
+use Rattle.demands.specs.Runs.{stored-kept, entered-kept, returned-kept, step-storage, runs}
 use Rattle.demands.specs.FitLaws.{either, IsLong, Longs, otherIn, FitsLong, GotBelow, load-below, written-longs}
 use Rattle.demands.specs.BodyTyped.{execute-fits}
 
