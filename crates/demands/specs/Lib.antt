@@ -4,8 +4,8 @@ pub mod AccessLaws
 pub mod FirstReplies
 pub mod EntryLaws
 pub mod StepLaws
-pub mod Undone
 pub mod ValueLaws
+pub mod Undone
 pub mod Nesting
 pub mod Refusals
 pub mod Runs
