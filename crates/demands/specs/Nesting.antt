@@ -46,16 +46,20 @@ pub record Pending : Type 0 where
 abbrev pub pending : Cpu → ℕ → Outcome → Pending
 pending handed pc answer = record { handed = handed; pc = pc; answer = answer }
 
--- the state that it left, and where its frame is: A7 then
+-- the state that it left
 abbrev pub leftBy : Pending → Cpu
 leftBy e = e .answer .stepped .cpu
 
-abbrev pub frameOf : Pending → ℕ
-frameOf e = addressOf (leftBy e .r) 7
+-- after an answer: where A7 is, and what is lent
+abbrev pub a7After : Outcome → ℕ
+a7After o = addressOf (o .stepped .cpu .r) 7
 
--- what is lent after an answer
 abbrev pub afterwards : Lent → Outcome → Lent
 afterwards l o = lentOn l (o .storage)
+
+-- an entry's frame is at A7 after it
+abbrev pub frameOf : Pending → ℕ
+frameOf e = a7After (e .answer)
 
 -- the eight bytes of each frame are the same in m and m′
 abbrev pub SameFrames : List Pending → Memory → Memory → Type 0
@@ -71,7 +75,7 @@ TouchesNone a (e ∷ es) = ((a + 8 ≤ frameOf e) ⊎ (frameOf e + 8 ≤ a)) × 
 pub data Reached : List Pending → Cpu → Lent → Type 0 where
   start : {s : Cpu} {l : Lent} → Values s (l .storage) → admitted s ≡ true → Reached [] s l
   entry : {es : List Pending} {s : Cpu} {l : Lent} {handed : Cpu} {pc : ℕ} {answer : Outcome} → Reached es s l → Enters s l handed pc answer
-      → answer .stepped .reply ≡ Done → TouchesNone (addressOf (answer .stepped .cpu .r) 7) es
+      → answer .stepped .reply ≡ Done → TouchesNone (a7After answer) es
       → Reached (pending handed pc answer ∷ es) (answer .stepped .cpu) (afterwards l answer)
   work : {es : List Pending} {s s′ : Cpu} {l l′ : Lent} → Reached es s l → Values s′ (l′ .storage) → admitted s′ ≡ true
       → length (l′ .storage) ≡ length (l .storage) → SameFrames es (memoryOf l) (memoryOf l′) → Reached es s′ l′
@@ -102,7 +106,7 @@ abbrev pub FrameBelow : (Cpu → Type 0) → (Cpu → ℕ) → Type 0
 FrameBelow when pointer =
     (es : List Pending) (s : Cpu) (l : Lent) (handed : Cpu) (pc : ℕ) (answer : Outcome) → Values s (l .storage) → Enters s l handed pc answer
     → answer .stepped .reply ≡ Done → Stacked es → when handed → AtMost (pointer handed) es
-    → TouchesNone (addressOf (answer .stepped .cpu .r) 7) es × Stacked (pending handed pc answer ∷ es)
+    → TouchesNone (a7After answer) es × Stacked (pending handed pc answer ∷ es)
 
 pub record FramesBelow : Type 0 where
   -- CACR bit 5 is clear, so that there is one stack: A7
@@ -131,9 +135,6 @@ pub data Entries (s : Cpu) (l : Lent) : List Pending → Cpu → Lent → Type 0
       → SameRegisters s₁ handed → answer .stepped .reply ≡ Done
       → Entries s l (pending handed pc answer ∷ es) (answer .stepped .cpu) (afterwards l₁ answer)
 
-pub same-registers : (s : Cpu) → SameRegisters s s
-same-registers s = record { same-r = refl; same-sr = refl; same-other = refl; same-vbr = refl; same-cacr = refl; same-emac = refl }
-
 -- returns alone, from s₁ and l₁ to s₂ and l₂, with these answers
 pub data Unwound (s₂ : Cpu) (l₂ : Lent) : List Outcome → Cpu → Lent → Type 0 where
   none : Unwound s₂ l₂ [] s₂ l₂
@@ -154,7 +155,7 @@ abbrev pub OutsideFrames : List Pending → ℕ → Type 0
 OutsideFrames [] j = Unit {0}
 OutsideFrames (e ∷ es) j = ((j < frameOf e) ⊎ (frameOf e + 8 ≤ j)) × OutsideFrames es j
 
--- all is back, from s₂ and l₂ to s and l
+-- all is back: s₂ and l₂ after the returns, against s and l before the entries
 pub record AllBack (s : Cpu) (l : Lent) (es : List Pending) (answers : List Outcome) (s₂ : Cpu) (l₂ : Lent) : Type 0 where
   -- every return succeeded
   pub all-done : AllDone answers
@@ -219,57 +220,57 @@ handler-others s level frame handler =
     record { but-a7 = b .but-a7 ∙ a .but-a7; vbr = b .vbr ∙ a .vbr; cacr = b .cacr ∙ a .cacr; emac = b .emac ∙ a .emac }
 
 -- what an entry that was done leaves
-record Entered (l : Lent) (handed : Cpu) (level : Level) (answer : Outcome) : Type 0 where
+record Entered (s : Cpu) (l : Lent) (handed : Cpu) (pc : ℕ) (answer : Outcome) : Type 0 where
+  way : Way s l handed pc answer
   typed : Values (answer .stepped .cpu) (answer .storage)
   taken : admitted (answer .stepped .cpu) ≡ true
   in-s : supervisor (answer .stepped .cpu .sr) ≡ true
-  low : addressOf (answer .stepped .cpu .r) 7 ≤ longest
-  below : addressOf (answer .stepped .cpu .r) 7 + 8 ≤ spIn handed level
+  low : a7After answer ≤ longest
+  below : a7After answer + 8 ≤ spIn handed (way .level)
   as-long : length (answer .storage) ≡ length (l .storage)
-  outside : (j : ℕ) → (j < addressOf (answer .stepped .cpu .r) 7) ⊎ (addressOf (answer .stepped .cpu .r) 7 + 8 ≤ j)
-      → numberAt (memoryOf (afterwards l answer)) j Byte ≡ numberAt (memoryOf l) j Byte
+  outside : (j : ℕ) → (j < a7After answer) ⊎ (a7After answer + 8 ≤ j) → numberAt (memoryOf (afterwards l answer)) j Byte ≡ numberAt (memoryOf l) j Byte
   others : Others handed (answer .stepped .cpu)
 
-module _ (s : Cpu) (l : Lent) (handed : Cpu) (pc : ℕ) (answer : Outcome) (bytes : Bytes (l .storage)) (w : Way s l handed pc answer)
-    (done : answer .stepped .reply ≡ Done) where
-  entered-so : Entered l handed (w .level) answer
-  entered-so =
-      let level : Level = w .level in
-      let sp : ℕ = spIn handed level in
-      let x : Left handed (memoryOf l) pc level (w .vector) (answer .stepped .cpu) (answer .storage) = way-left _ _ _ _ _ w done in
-      let n : Named handed level (answer .stepped .cpu) = named _ _ _ _ _ _ _ (w .on .typed .sixteen) x in
-      let f : sp < 2 ^ 32 = sp-long handed level (w .on .typed) in
-      let short : length (l .storage) ≤ longest = short-of s l (w .ready) in
-      let byte : (j : ℕ) → (j < framePlace sp) ⊎ (framePlace sp + 8 ≤ j) → numberAt (memoryOf (afterwards l answer)) j Byte ≡ numberAt (memoryOf l) j Byte =
-      λ j out. byte-is (memoryOf (afterwards l answer)) j
-      ∙ ap (λ (y : Storage). getD y j 0) (x .storage-is)
-      ∙ framed-byte sp (length (l .storage)) f short (x .hi) (x .lo) (l .storage) (w .vector) (handed .sr) pc j out
-      ∙ sym (byte-is (memoryOf l) j)
-      in
-      let small : Bytes (answer .storage) = rw (x .storage-is) (values.framed-bytes (l .storage) sp (w .vector) (handed .sr) pc bytes) in
-      let handler : x .handler < 2 ^ 32 = rw (x .handler-is) (value-lt (answer .storage) (x .place) 4 small) in
-      record {
-        typed = (
-          rw (x .state-is) (values.handler-typed handed (w .on .typed) (swapsIn handed level) _ (values.status-word _) (framePlace sp) (x .handler) (minus-below _ 4) handler),
-          small,
-        );
-        taken = rw (w .is) (entered-admitted s (memoryOf l) (first-admitted s l (w .ready)) handed level (w .vector) pc (w .on .admits));
-        in-s = n .in-s;
-        low = rw (n .at-frame) (frame-low sp (length (l .storage)) f short (x .hi) (x .lo));
-        below = rw (n .at-frame) (frame-below sp (length (l .storage)) f short (x .hi) (x .lo));
-        as-long = ap length (x .storage-is) ∙ simp length-store;
-        outside = rw (n .at-frame) byte;
-        others = rw (x .state-is) (handler-others handed level _ (x .handler));
-      }
+entered-so : (s : Cpu) (l : Lent) (handed : Cpu) (pc : ℕ) (answer : Outcome) → Values s (l .storage) → Enters s l handed pc answer → answer .stepped .reply ≡ Done
+    → Entered s l handed pc answer
+entered-so s l handed pc answer given enters done =
+    let w : Way s l handed pc answer = way s l handed pc answer given enters done in
+    let level : Level = w .level in
+    let sp : ℕ = spIn handed level in
+    let x : Left handed (memoryOf l) pc level (w .vector) (answer .stepped .cpu) (answer .storage) = way-left _ _ _ _ _ w done in
+    let n : Named handed level (answer .stepped .cpu) = named _ _ _ _ _ _ _ (w .on .typed .sixteen) x in
+    let f : sp < 2 ^ 32 = sp-long handed level (w .on .typed) in
+    let short : length (l .storage) ≤ longest = short-of s l (w .ready) in
+    let byte : (j : ℕ) → (j < framePlace sp) ⊎ (framePlace sp + 8 ≤ j) → numberAt (memoryOf (afterwards l answer)) j Byte ≡ numberAt (memoryOf l) j Byte =
+    λ j out. byte-is (memoryOf (afterwards l answer)) j
+    ∙ ap (λ (y : Storage). getD y j 0) (x .storage-is)
+    ∙ framed-byte sp (length (l .storage)) f short (x .hi) (x .lo) (l .storage) (w .vector) (handed .sr) pc j out
+    ∙ sym (byte-is (memoryOf l) j)
+    in
+    let small : Bytes (answer .storage) = rw (x .storage-is) (values.framed-bytes (l .storage) sp (w .vector) (handed .sr) pc (given .1)) in
+    let handler : x .handler < 2 ^ 32 = rw (x .handler-is) (value-lt (answer .storage) (x .place) 4 small) in
+    record {
+      way = w;
+      typed = (
+        rw (x .state-is) (values.handler-typed handed (w .on .typed) (swapsIn handed level) _ (values.status-word _) (framePlace sp) (x .handler) (minus-below _ 4) handler),
+        small,
+      );
+      taken = rw (w .is) (entered-admitted s (memoryOf l) (first-admitted s l (w .ready)) handed level (w .vector) pc (w .on .admits));
+      in-s = n .in-s;
+      low = rw (n .at-frame) (frame-low sp (length (l .storage)) f short (x .hi) (x .lo));
+      below = rw (n .at-frame) (frame-below sp (length (l .storage)) f short (x .hi) (x .lo));
+      as-long = ap length (x .storage-is) ∙ simp length-store;
+      outside = rw (n .at-frame) byte;
+      others = rw (x .state-is) (handler-others handed level _ (x .handler));
+    }
 
 -- ---- what holds wherever is reached: of each entry not returned from, its frame is still there
 
 record Pends (e : Pending) (l : Lent) : Type 0 where
   state : Cpu
   lent : Lent
-  way : Way state lent (e .handed) (e .pc) (e .answer)
+  entered : Entered state lent (e .handed) (e .pc) (e .answer)
   done : e .answer .stepped .reply ≡ Done
-  low : frameOf e ≤ longest
   as-much : length (l .storage) ≡ length (e .answer .storage)
   same-frame : (j : ℕ) → j < 8 → numberAt (memoryOf l) (plus (frameOf e) j) Byte ≡ numberAt (memoryOf (afterwards lent (e .answer))) (plus (frameOf e) j) Byte
 
@@ -290,9 +291,8 @@ all-pend (e ∷ es) l l′ n same a =
       record {
         state = p .state;
         lent = p .lent;
-        way = p .way;
+        entered = p .entered;
         done = p .done;
-        low = p .low;
         as-much = n ∙ p .as-much;
         same-frame = λ j h. same .0 j h ∙ p .same-frame j h;
       },
@@ -308,16 +308,14 @@ frames-same : (a : ℕ) (es : List Pending) (l l′ : Lent) → AllPend es l →
     → ((j : ℕ) → (j < a) ⊎ (a + 8 ≤ j) → numberAt (memoryOf l′) j Byte ≡ numberAt (memoryOf l) j Byte) → SameFrames es (memoryOf l) (memoryOf l′)
 frames-same a [] l l′ p apart same = tt
 frames-same a (e ∷ es) l l′ p apart same = (
-  λ j h. rw (plus-small (frameOf e) j (p .0 .low) h) (same (frameOf e + j) (⊎-elim (λ x. inr (omega arith)) (λ x. inl (omega arith)) (apart .0))),
+  λ j h. rw (plus-small (frameOf e) j (p .0 .entered .low) h) (same (frameOf e + j) (⊎-elim (λ x. inr (omega arith)) (λ x. inl (omega arith)) (apart .0))),
   frames-same a es l l′ (p .1) (apart .1) same,
 )
 
-entry-holds : (es : List Pending) (s : Cpu) (l : Lent) (handed : Cpu) (pc : ℕ) (answer : Outcome) → Holds es s l → Enters s l handed pc answer → answer .stepped .reply ≡ Done
-    → TouchesNone (addressOf (answer .stepped .cpu .r) 7) es → Holds (pending handed pc answer ∷ es) (answer .stepped .cpu) (afterwards l answer)
-entry-holds es s l handed pc answer h enters done apart =
-    let w : Way s l handed pc answer = way s l handed pc answer (h .typed) enters done in
-    let n : Entered l handed (w .level) answer = entered-so s l handed pc answer (h .typed .1) w done in
-    let top : Pends (pending handed pc answer) (afterwards l answer) = record { state = s; lent = l; way = w; done = done; low = n .low; as-much = refl; same-frame = λ j k. refl } in
+entry-holds : (es : List Pending) (s : Cpu) (l : Lent) (handed : Cpu) (pc : ℕ) (answer : Outcome) → Holds es s l → Entered s l handed pc answer → answer .stepped .reply ≡ Done
+    → TouchesNone (a7After answer) es → Holds (pending handed pc answer ∷ es) (answer .stepped .cpu) (afterwards l answer)
+entry-holds es s l handed pc answer h n done apart =
+    let top : Pends (pending handed pc answer) (afterwards l answer) = record { state = s; lent = l; entered = n; done = done; as-much = refl; same-frame = λ j k. refl } in
     record {
       typed = n .typed;
       taken = n .taken;
@@ -329,7 +327,7 @@ going : (e : Pending) (es : List Pending) (s : Cpu) (l : Lent) (answer : Outcome
 going e es s l answer h at-return returns =
     let p : Pends e l = h .pend .0 in
     let kept : AsLeft (leftBy e) (afterwards (p .lent) (e .answer)) s l = record { at-return = at-return; as-much = p .as-much; same-frame = p .same-frame } in
-    gone (p .state) (p .lent) (e .handed) (e .pc) (e .answer) (p .way) (p .done) s l answer (h .typed) (h .taken) kept returns
+    gone (p .state) (p .lent) (e .handed) (e .pc) (e .answer) (p .entered .way) (p .done) s l answer (h .typed) (h .taken) kept returns
 
 return-holds : (e : Pending) (es : List Pending) (s : Cpu) (l : Lent) (answer : Outcome) → Holds (e ∷ es) s l → Gone (e .handed) (e .pc) s l answer
     → Holds es (answer .stepped .cpu) (afterwards l answer)
@@ -340,7 +338,9 @@ return-holds e es s l answer h g =
 
 holds : (es : List Pending) (s : Cpu) (l : Lent) → Reached es s l → Holds es s l
 holds es s l (start typed taken) = record { typed = typed; taken = taken; pend = tt }
-holds es s l (entry r enters done apart) = entry-holds _ _ _ _ _ _ (holds _ _ _ r) enters done apart
+holds es s l (entry r enters done apart) =
+    let h : Holds _ _ _ = holds _ _ _ r in
+    entry-holds _ _ _ _ _ _ h (entered-so _ _ _ _ _ (h .typed) enters done) done apart
 holds es s l (work r typed taken n same) = record { typed = typed; taken = taken; pend = all-pend es _ l n same (holds _ _ _ r .pend) }
 holds es s l (return r at-return returns) =
     let h : Holds (_ ∷ es) _ _ = holds _ _ _ r in
@@ -360,14 +360,17 @@ touches-none : (a : ℕ) (es : List Pending) → AtMost (a + 8) es → Stacked e
 touches-none a [] h st = tt
 touches-none a (e ∷ es) h st = (inl h, touches-none a es (at-most-less (a + 8) (frameOf e + 8) es (omega arith) (st .0)) (st .1))
 
--- the pointer is the one that the test picks
-frame-below-by : (es : List Pending) (s : Cpu) (l : Lent) (handed : Cpu) (pc : ℕ) (answer : Outcome) (typed : Values s (l .storage)) (w : Way s l handed pc answer)
-    → answer .stepped .reply ≡ Done → Stacked es → AtMost (spIn handed (w .level)) es
-    → TouchesNone (addressOf (answer .stepped .cpu .r) 7) es × Stacked (pending handed pc answer ∷ es)
-frame-below-by es s l handed pc answer typed w done st h =
-    let n : Entered l handed (w .level) answer = entered-so s l handed pc answer (typed .1) w done in
-    let under : AtMost (addressOf (answer .stepped .cpu .r) 7 + 8) es = at-most-less _ _ es (n .below) h in
+-- the pointer is the one that the test of CACR and S picks
+below-so : (es : List Pending) (s : Cpu) (l : Lent) (handed : Cpu) (pc : ℕ) (answer : Outcome) (n : Entered s l handed pc answer) → Stacked es
+    → AtMost (spIn handed (n .way .level)) es → TouchesNone (a7After answer) es × Stacked (pending handed pc answer ∷ es)
+below-so es s l handed pc answer n st h =
+    let under : AtMost (a7After answer + 8) es = at-most-less _ _ es (n .below) h in
     (touches-none _ es under st, (under, st))
+
+by-pointer : (when : Cpu → Type 0) (pointer : Cpu → ℕ) → ((s : Cpu) (level : Level) → when s → spIn s level ≡ pointer s) → FrameBelow when pointer
+by-pointer when pointer is es s l handed pc answer typed enters done st h under =
+    let n : Entered s l handed pc answer = entered-so s l handed pc answer typed enters done in
+    below-so es s l handed pc answer n st (rw (is handed (n .way .level) h) under)
 
 module _ (s : Cpu) (level : Level) where
   one-pointer : twoStacks s ≡ false → spIn s level ≡ addressOf (s .r) 7
@@ -380,21 +383,11 @@ module _ (s : Cpu) (level : Level) where
       never true = refl
       never false = refl
 
-  swap : twoStacks s ≡ true → supervisor (s .sr) ≡ false → spIn s level ≡ s .other
-  swap two h = rw (two, h, laws.handler-s level (s .sr))
+  swap : (twoStacks s ≡ true) × (supervisor (s .sr) ≡ false) → spIn s level ≡ s .other
+  swap h = rw (h .0, h .1, laws.handler-s level (s .sr))
 
 pub frames-below : FramesBelow
-frames-below = record {
-  one-stack = λ es s l handed pc answer typed enters done st h under.
-      let w : Way s l handed pc answer = way s l handed pc answer typed enters done in
-      frame-below-by es s l handed pc answer typed w done st (rw (one-pointer handed (w .level) h) under);
-  in-supervisor = λ es s l handed pc answer typed enters done st h under.
-      let w : Way s l handed pc answer = way s l handed pc answer typed enters done in
-      frame-below-by es s l handed pc answer typed w done st (rw (no-swap handed (w .level) h) under);
-  from-user = λ es s l handed pc answer typed enters done st h under.
-      let w : Way s l handed pc answer = way s l handed pc answer typed enters done in
-      frame-below-by es s l handed pc answer typed w done st (rw (swap handed (w .level) (h .0) (h .1)) under);
-}
+frames-below = record { one-stack = by-pointer _ _ one-pointer; in-supervisor = by-pointer _ _ no-swap; from-user = by-pointer _ _ swap }
 
 -- ---- with nothing run between
 
@@ -435,6 +428,9 @@ module _ (s₀ : Cpu) (e : Pending) (t : Cpu) (l : Lent) (answer : Outcome) (han
       in
       rw (g .is) x
 
+pub same-registers : (s : Cpu) → SameRegisters s s
+same-registers s = record { same-r = refl; same-sr = refl; same-other = refl; same-vbr = refl; same-cacr = refl; same-emac = refl }
+
 same-at-return : (s t : Cpu) → SameRegisters s t → AtReturn s t
 same-at-return s t r = record {
   same-s = ap supervisor (r .same-sr);
@@ -467,38 +463,36 @@ module _ (s : Cpu) (l : Lent) (typed : Values s (l .storage)) (taken : admitted 
   chained es s₁ l₁ none = record { hold = record { typed = typed; taken = taken; pend = tt }; stacked = tt; latest = tt; as-much = refl; bytes = λ j o. refl }
   chained es s₁ l₁ (entry {es = es′} {s₁ = s′} {l₁ = l′} {handed = handed} {pc = pc} {answer = answer} chain enters same done) =
       let c : Chained l es′ s′ l′ = chained es′ s′ l′ chain in
-      let w : Way s′ l′ handed pc answer = way s′ l′ handed pc answer (c .hold .typed) enters done in
-      let n : Entered l′ handed (w .level) answer = entered-so s′ l′ handed pc answer (c .hold .typed .1) w done in
-      let f : TouchesNone (addressOf (answer .stepped .cpu .r) 7) es′ × Stacked (pending handed pc answer ∷ es′) =
-      frame-below-by es′ s′ l′ handed pc answer (c .hold .typed) w done (c .stacked) (next-under es′ s′ handed (w .level) (c .latest) same)
+      let n : Entered s′ l′ handed pc answer = entered-so s′ l′ handed pc answer (c .hold .typed) enters done in
+      let f : TouchesNone (a7After answer) es′ × Stacked (pending handed pc answer ∷ es′) =
+      below-so es′ s′ l′ handed pc answer n (c .stacked) (next-under es′ s′ handed (n .way .level) (c .latest) same)
       in
       record {
-        hold = entry-holds es′ s′ l′ handed pc answer (c .hold) enters done (f .0);
+        hold = entry-holds es′ s′ l′ handed pc answer (c .hold) n done (f .0);
         stacked = f .1;
         latest = (n .in-s, refl);
         as-much = n .as-long ∙ c .as-much;
         bytes = λ j o. n .outside j (o .0) ∙ c .bytes j (o .1);
       }
 
-  record UnwoundTo (es : List Pending) (t : Cpu) (n : Lent) (answers : List Outcome) (s₂ : Cpu) (l₂ : Lent) : Type 0 where
-    all-done : AllDone answers
-    registers-back : SameRegisters s s₂
-    pc-back : s₂ .pc ≡ outermostPc (t .pc) es
-    memory-kept : l₂ ≡ n
+-- the returns
+record UnwoundTo (s : Cpu) (es : List Pending) (t : Cpu) (n : Lent) (answers : List Outcome) (s₂ : Cpu) (l₂ : Lent) : Type 0 where
+  all-done : AllDone answers
+  registers-back : SameRegisters s s₂
+  pc-back : s₂ .pc ≡ outermostPc (t .pc) es
+  memory-kept : l₂ ≡ n
 
+module _ (s : Cpu) (l : Lent) where
   unwind : (es : List Pending) (s₁ : Cpu) (l₁ : Lent) (t : Cpu) (n : Lent) (answers : List Outcome) (s₂ : Cpu) (l₂ : Lent)
-      → Entries s l es s₁ l₁ → Holds es t n → SameRegisters s₁ t → Unwound s₂ l₂ answers t n → length answers ≡ length es → UnwoundTo es t n answers s₂ l₂
+      → Entries s l es s₁ l₁ → Holds es t n → SameRegisters s₁ t → Unwound s₂ l₂ answers t n → length answers ≡ length es → UnwoundTo s es t n answers s₂ l₂
   unwind es s₁ l₁ t n answers s₂ l₂ none h r none k = record { all-done = tt; registers-back = r; pc-back = refl; memory-kept = refl }
   unwind es s₁ l₁ t n answers s₂ l₂ none h r (return returns rest) k = absurd (omega arith)
   unwind es s₁ l₁ t n answers s₂ l₂ (entry chain enters same done) h r none k = absurd (omega arith)
   unwind es s₁ l₁ t n answers s₂ l₂ (entry {es = es′} {s₁ = s′} {l₁ = l′} {handed = handed} {pc = pc} {answer = answer} chain enters same done) h r (return {answers = bs} {answer = b} returns rest) k =
       let e : Pending = pending handed pc answer in
-      let c : Chained l es′ s′ l′ = chained es′ s′ l′ chain in
-      let w : Way s′ l′ handed pc answer = way s′ l′ handed pc answer (c .hold .typed) enters done in
-      let o : Others handed (answer .stepped .cpu) = entered-so s′ l′ handed pc answer (c .hold .typed .1) w done .others in
       let g : Gone handed pc t n b = going e es′ t n b h (same-at-return _ t r) returns in
-      let u : UnwoundTo es′ (b .stepped .cpu) (afterwards n b) bs s₂ l₂ =
-      unwind es′ s′ l′ (b .stepped .cpu) (afterwards n b) bs s₂ l₂ chain (return-holds e es′ t n b h g) (return-same s′ e t n b same o r g) rest (omega arith)
+      let u : UnwoundTo s es′ (b .stepped .cpu) (afterwards n b) bs s₂ l₂ =
+      unwind es′ s′ l′ (b .stepped .cpu) (afterwards n b) bs s₂ l₂ chain (return-holds e es′ t n b h g) (return-same s′ e t n b same (h .pend .0 .entered .others) r g) rest (omega arith)
       in
       let v : Undoes handed pc (n .storage) b = gone-undoes _ _ _ _ _ g in
       record {
@@ -508,14 +502,14 @@ module _ (s : Cpu) (l : Lent) (typed : Values s (l .storage)) (taken : admitted 
         memory-kept = u .memory-kept ∙ ap (lentOn n) (v .memory-kept);
       }
 
-same-outermost : (s : Cpu) (l : Lent) (es : List Pending) (s₁ : Cpu) (l₁ : Lent) → Entries s l es s₁ l₁ → outermostPc (s₁ .pc) es ≡ outermostPc (s .pc) es
-same-outermost s l es s₁ l₁ none = refl
-same-outermost s l es s₁ l₁ (entry chain enters same done) = refl
+  same-outermost : (es : List Pending) (s₁ : Cpu) (l₁ : Lent) → Entries s l es s₁ l₁ → outermostPc (s₁ .pc) es ≡ outermostPc (s .pc) es
+  same-outermost es s₁ l₁ none = refl
+  same-outermost es s₁ l₁ (entry chain enters same done) = refl
 
 pub nothing-between : NothingBetween
 nothing-between s l es s₁ l₁ answers s₂ l₂ typed taken chain back k =
     let c : Chained l es s₁ l₁ = chained s l typed taken es s₁ l₁ chain in
-    let u : UnwoundTo s l typed taken es s₁ l₁ answers s₂ l₂ = unwind s l typed taken es s₁ l₁ s₁ l₁ answers s₂ l₂ chain (c .hold) (same-registers s₁) back k in
+    let u : UnwoundTo s es s₁ l₁ answers s₂ l₂ = unwind s l es s₁ l₁ s₁ l₁ answers s₂ l₂ chain (c .hold) (same-registers s₁) back k in
     record {
       all-done = u .all-done;
       registers-back = u .registers-back;
