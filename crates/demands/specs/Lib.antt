@@ -7,6 +7,7 @@ pub mod StepLaws
 pub mod ValueLaws
 pub mod Undone
 pub mod Nesting
+pub mod NestingExample
 pub mod Refusals
 pub mod Runs
 pub mod PartLaws
