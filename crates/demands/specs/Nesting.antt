@@ -127,8 +127,8 @@ pub record SameRegisters (s s₂ : Cpu) : Type 0 where
   pub same-cacr : s₂ .cacr ≡ s .cacr
   pub same-emac : s₂ .emac ≡ s .emac
 
--- entries alone, from s and l. Each hands on the registers of the state that it is made from; `same-registers` says so of
--- `exception` and `interrupt`, which hand on the state itself
+-- entries alone, from s and l. Each hands on the registers of the state that it is made from: so do `exception` and `interrupt`
+-- (`same-registers`) and TRAP (`same-but-pc`)
 pub data Entries (s : Cpu) (l : Lent) : List Pending → Cpu → Lent → Type 0 where
   none : Entries s l [] s l
   entry : {es : List Pending} {s₁ : Cpu} {l₁ : Lent} {handed : Cpu} {pc : ℕ} {answer : Outcome} → Entries s l es s₁ l₁ → Enters s₁ l₁ handed pc answer
@@ -346,6 +346,12 @@ holds es s l (return r at-return returns) =
     let h : Holds (_ ∷ es) _ _ = holds _ _ _ r in
     return-holds _ es _ _ _ h (going _ es _ _ _ h at-return returns)
 
+-- what is reached is a state and a memory as the types say, and the state is admitted
+pub reached-fits : {es : List Pending} {s : Cpu} {l : Lent} → Reached es s l → Values s (l .storage) × (admitted s ≡ true)
+reached-fits r =
+    let h : Holds _ _ _ = holds _ _ _ r in
+    (h .typed, h .taken)
+
 pub entries-nest : EntriesNest
 entries-nest e es s l answer r at-return returns =
     gone-undoes _ _ _ _ _ (going e es s l answer (holds (e ∷ es) s l r) at-return returns)
@@ -428,8 +434,13 @@ module _ (s₀ : Cpu) (e : Pending) (t : Cpu) (l : Lent) (answer : Outcome) (han
       in
       rw (g .is) x
 
+pub same-but-pc : (v : ℕ) (s : Cpu) → SameRegisters s (withPc v s)
+unfolding withPc
+same-but-pc v s = record { same-r = refl; same-sr = refl; same-other = refl; same-vbr = refl; same-cacr = refl; same-emac = refl }
+
 pub same-registers : (s : Cpu) → SameRegisters s s
-same-registers s = record { same-r = refl; same-sr = refl; same-other = refl; same-vbr = refl; same-cacr = refl; same-emac = refl }
+unfolding withPc
+same-registers s = same-but-pc (s .pc) s
 
 same-at-return : (s t : Cpu) → SameRegisters s t → AtReturn s t
 same-at-return s t r = record {

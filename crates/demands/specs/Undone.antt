@@ -150,12 +150,12 @@ trap-enters s l n typed h w e =
     let on : HandedOn (withPc next s) = record { typed = values.pc-typed s typed next (plus-below (s .pc) 2); admits = pc-admitted next s (first-admitted s l (d .ready)) } in
     by-step (32 + n) next (omega arith) (plus-below (s .pc) 2) on (steps.step-trap s l n h w d)
 
-pub record WayBack (s : Cpu) (l : Lent) (answer : Outcome) : Type 0 where
-  pub at : ℕ
-  pub at-long : at < 2 ^ 32
-  pub is : answer ≡ returned s (withPc at s) (memoryOf l)
+record WayBack (s : Cpu) (l : Lent) (answer : Outcome) : Type 0 where
+  at : ℕ
+  at-long : at < 2 ^ 32
+  is : answer ≡ returned s (withPc at s) (memoryOf l)
 
-pub way-back : (s : Cpu) (l : Lent) (answer : Outcome) → Values s (l .storage) → Ready s l → supervisor (s .sr) ≡ true → Returns s l answer → WayBack s l answer
+way-back : (s : Cpu) (l : Lent) (answer : Outcome) → Values s (l .storage) → Ready s l → supervisor (s .sr) ≡ true → Returns s l answer → WayBack s l answer
 unfolding rte
 way-back s l answer typed ready h by-rte =
     record { at = s .pc; at-long = typed .0 .pc-long; is = rw (steps.same-pc s) (laws.goes-on s l _ ready) }
@@ -183,7 +183,7 @@ pub record Left (s : Cpu) (m : Memory) (pc : ℕ) (level : Level) (vector : ℕ)
   pub hi : pcPlace (spIn s level) + 4 ≤ length (storageOf m)
   pub lo : framePlace (spIn s level) + 4 ≤ length (storageOf m)
 
-pub entry-left : (given s : Cpu) (level : Level) (vector pc : ℕ) (m : Memory) → length (s .r) ≡ 16
+entry-left : (given s : Cpu) (level : Level) (vector pc : ℕ) (m : Memory) → length (s .r) ≡ 16
     → entered given s level vector pc m .stepped .reply ≡ Done
     → Left s m pc level vector (entered given s level vector pc m .stepped .cpu) (entered given s level vector pc m .storage)
 entry-left given s level vector pc m n e =
@@ -253,10 +253,10 @@ module _ (s : Cpu) (m : Memory) (pc : ℕ) (level : Level) (vector : ℕ) (on : 
   abbrev b₂ : Storage
   b₂ = l₂ .storage
 
-  pub as-long : length b₂ ≡ length (storageOf m)
+  as-long : length b₂ ≡ length (storageOf m)
   as-long = kept .as-much ∙ ap length (went .storage-is) ∙ simp length-store
 
-  pub returned-undone : (given : Cpu) (at₂ : ℕ) → returned given (withPc at₂ s₂) (memoryOf l₂) ≡ completed (undoneState s level at₂ pc s₂) 0 b₂
+  returned-undone : (given : Cpu) (at₂ : ℕ) → returned given (withPc at₂ s₂) (memoryOf l₂) ≡ completed (undoneState s level at₂ pc s₂) 0 b₂
   unfolding returnState withPc withAddress
   returned-undone given at₂ =
       let n : Named s level s₁ = named s m pc level vector s₁ (l₁ .storage) (on .typed .sixteen) went in
@@ -287,7 +287,7 @@ module _ (s : Cpu) (m : Memory) (pc : ℕ) (level : Level) (vector : ℕ) (on : 
       ∙ ap (λ (x : Cpu). completed (withPc pc x) 0 b₂) (laws.set-sr-is w (withAddress 7 sp t))
       ∙ rw (turn, ws)
 
-  pub undone-back : (at₂ : ℕ) → Back s pc (undoneState s level at₂ pc s₂)
+  undone-back : (at₂ : ℕ) → Back s pc (undoneState s level at₂ pc s₂)
   unfolding withPc withAddress
   undone-back at₂ =
       let n : Named s level s₁ = named s m pc level vector s₁ (l₁ .storage) (on .typed .sixteen) went in

@@ -1,4 +1,4 @@
--- A state that is what its types say stays so with a part replaced, and so do states and memories through entries and returns.
+-- A state that is what its types say stays so with a part replaced, and so do states and memories through entries.
 -- Assumes nothing.
 use Prim.Native.Nat.{ℕ, zero, suc, _+_, _/_, _%_, _^_, _<_}
 use mathlib.Core.Path.{_≡_, _∙_}
