@@ -6,9 +6,10 @@ pub mod AccessLaws
 pub mod FirstReplies
 pub mod EntryLaws
 pub mod StepLaws
-pub mod Undone
 pub mod ValueLaws
+pub mod Undone
 pub mod Nesting
+pub mod NestingExample
 pub mod Refusals
 pub mod Runs
 pub mod FitLaws

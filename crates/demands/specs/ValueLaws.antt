@@ -1,4 +1,4 @@
--- A state that is what its types say stays so with a part replaced, and so do states and memories through entries and returns.
+-- A state that is what its types say stays so with a part replaced, and so do states and memories through entries.
 -- Assumes nothing.
 use Prim.Native.Nat.{ℕ, zero, suc, _+_, _/_, _%_, _^_, _<_}
 use mathlib.Core.Path.{_≡_, _∙_}
@@ -8,15 +8,13 @@ use native.Mathlib.Omega.{arith}
 use lib.ListN.{length, getD, set, length-set}
 use Rattle.manual.specs.declared.Cpu.{Cpu}
 use Rattle.manual.specs.declared.Emac.{Emac}
-use Rattle.manual.specs.declared.Level.{Level}
 use Rattle.manual.specs.Registers.{addressOf, withRegisters, withAddress, withPc, withSr, withOther, withEmac, withStopped}
 use Rattle.manual.specs.Memory.{Storage, storeAt}
 use Rattle.manual.specs.Admitted.{status}
-use Rattle.manual.specs.Exceptions.{handlerSr, handlerState}
+use Rattle.manual.specs.Exceptions.{handlerState}
 use Rattle.block.specs.Typed.{Typed}
 use Rattle.demands.specs.Exact.{Bytes}
 use Rattle.demands.specs.EntryLaws as laws
-use Rattle.demands.specs.Undone.{swapsIn, spIn, turned, undoneState, sp-long}
 
 -- ---- numbers below a bound stay below it
 
@@ -137,20 +135,13 @@ after-typed s typed true v h =
     sr-typed _ (other-typed _ a (addressOf (s .r) 7) (a7-long s typed)) v h
 after-typed s typed false v h = sr-typed s typed v h
 
--- ---- an entry's state and memory, and a return's state
+-- ---- an entry's state and memory; b says whether the pointers change places
 
-pub handler-typed : (s : Cpu) (at : ℕ) (level : Level) (frame handler : ℕ) → Typed s → at < 2 ^ 32 → frame < 2 ^ 32 → handler < 2 ^ 32
-    → Typed (handlerState (turned (withPc at s) level) frame handler)
+pub handler-typed : (s : Cpu) → Typed s → (b : Bool) (v : ℕ) → v < 2 ^ 16 → (frame handler : ℕ) → frame < 2 ^ 32 → handler < 2 ^ 32
+    → Typed (handlerState (laws.after b v s) frame handler)
 unfolding handlerState
-handler-typed s at level frame handler typed p f h =
-    let t : Typed (turned (withPc at s) level) = after-typed _ (pc-typed s typed at p) (swapsIn (withPc at s) level) (status (handlerSr level (withPc at s .sr))) (status-word _) in
-    stopped-typed _ (pc-typed _ (address-typed _ t frame f) handler h) false
+handler-typed s typed b v w frame handler f h =
+    stopped-typed _ (pc-typed _ (address-typed _ (after-typed s typed b v w) frame f) handler h) false
 
 pub framed-bytes : (m : Storage) (sp vector sr pc : ℕ) → Bytes m → Bytes (laws.frameOn m sp vector sr pc)
 framed-bytes m sp vector sr pc all = store-bytes _ _ 4 _ (store-bytes m _ 4 pc all)
-
-pub undone-typed : (s : Cpu) (level : Level) (at pc : ℕ) (s₂ : Cpu) → Typed s → Typed s₂ → at < 2 ^ 32 → pc < 2 ^ 32
-    → Typed (undoneState s level at pc s₂)
-undone-typed s level at pc s₂ typed typed₂ p f =
-    let a : Typed (withAddress 7 (spIn s level) (withPc at s₂)) = address-typed _ (pc-typed s₂ typed₂ at p) (spIn s level) (sp-long s level typed) in
-    pc-typed _ (after-typed _ a (swapsIn s level) (s .sr) (typed .sr-word)) pc f
