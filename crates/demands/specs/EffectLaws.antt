@@ -1,9 +1,10 @@
 -- What a change that has an effect does where it is performed: its accesses are those of the effect, and done, its vector and its stores
 -- are the effect's. Assumes nothing.
-use Prim.Native.Nat.{ℕ, zero, suc, _+_, _/_, _%_}
+use Prim.Native.Nat.{ℕ, zero, suc, _+_, _/_, _%_, _^_, _<_}
 use mathlib.Core.Path.{_≡_, refl, sym, ap, subst, _∙_}
 use mathlib.Core.Bool.{Bool, true, false, cond, false≢true}
 use mathlib.Core.List.{List, [], _∷_, _++_, append-nil}
+use native.Mathlib.Omega.{arith}
 use lib.Dec.{eqb}
 use lib.ListN.{length}
 use Rattle.manual.specs.declared.Cpu.{Cpu}
@@ -28,6 +29,7 @@ use Rattle.manual.specs.Change.{acting, enterAfter}
 use Rattle.manual.specs.Differences.{vectorPlace}
 use Rattle.manual.specs.Exceptions.{setSr, handlerSr, pcPlace, framePlace, entered, returned}
 use Rattle.instructions.specs.Perform.{statusPushed, act, perform}
+use Rattle.word.specs.WordLaws.{plus-below}
 use Rattle.memory.specs.MemoryLaws.{length-stored}
 use Rattle.demands.specs.Exact.{numbered}
 use Rattle.demands.specs.Accesses.{Wanted, wanted, manyLongs}
@@ -35,15 +37,43 @@ use Rattle.demands.specs.AccessLaws.{taken-or-not, fault-number, here-is
 use Rattle.demands.specs.EntryLaws as entry
 use Rattle.demands.specs.StepLaws.{applied-acting, coded-kept}
 use Rattle.demands.specs.Refusals.{done-is}
-use Rattle.demands.specs.Effects.{Effect, nothing, stores, pushesStatus, storesMany, loadsMany, enters, returns, handed, Put, put, manyPuts, putsOf, readsOf, places, storedAll, vectorOf}
+use Rattle.demands.specs.Effects.{Effect, nothing, stores, pushesStatus, storesMany, loadsMany, enters, returns, Vector, illegal-word, violation, zero-divide, line-a, line-f, trapped, Lawful, handed, Put, put, manyPuts, putsOf, readsOf, places, storedAll, vectorOf}
 use Rattle.demands.specs.PartLaws.{accessAll, numberOr, quiet, Does, does-nothing, does-store, does-push, does-store-many, does-load-many, does-enter, does-return}
 use Rattle.demands.specs.ReplyLaws as replies
+
+-- an entry is `entered` from the registers after the operand's move
+abbrev pub EntersBy : Cpu → Memory → Outcome → Effect → Type 0
+EntersBy s m o nothing = Unit {0}
+EntersBy s m o (stores a z v) = Unit {0}
+EntersBy s m o pushesStatus = Unit {0}
+EntersBy s m o (storesMany regs a) = Unit {0}
+EntersBy s m o (loadsMany regs a) = Unit {0}
+EntersBy s m o (enters w vector pc) = o ≡ entered s (handed w pc s) Kept vector pc m
+EntersBy s m o returns = Unit {0}
 
 -- the outcome is that of an effect on the state s and the memory m
 pub record Performs (s : Cpu) (m : Memory) (e : Effect) (o : Outcome) : Type 0 where
   pub answers : replies.Answers m (places (putsOf s e) ++ readsOf s e) o
   pub says : numbered o ≡ 0 → o .stepped .vector ≡ vectorOf e
   pub stores-so : numbered o ≡ 0 → o .storage ≡ storedAll (storageOf m) (putsOf s e)
+  pub lawful : Lawful (s .pc) e
+  pub enters-by : EntersBy s m o e
+
+-- ---- the numbers of an entry fit
+
+pub record VectorFits (at : ℕ) (w : Write) (vector pc : ℕ) : Type 0 where
+  pub small : vector < 256
+  pub move-long : w .value < 2 ^ 32
+  pub pc-long : at < 2 ^ 32 → pc < 2 ^ 32
+
+pub vector-fits : {at : ℕ} {w : Write} {vector pc : ℕ} → Vector at w vector pc → VectorFits at w vector pc
+unfolding noWrite
+vector-fits illegal-word = record { small = omega arith; move-long = omega arith; pc-long = λ h. h }
+vector-fits (violation v) = record { small = omega arith; move-long = v; pc-long = λ h. h }
+vector-fits (zero-divide v next) = record { small = omega arith; move-long = v; pc-long = λ h. next }
+vector-fits (line-a v) = record { small = omega arith; move-long = v; pc-long = λ h. h }
+vector-fits line-f = record { small = omega arith; move-long = omega arith; pc-long = λ h. h }
+vector-fits {at = at} (trapped n) = record { small = omega arith; move-long = omega arith; pc-long = λ h. plus-below at 2 }
 
 -- ---- an action that does nothing to memory
 
@@ -122,7 +152,7 @@ many-same zero m m′ regs a e = refl
 many-same (suc left) m m′ regs a e =
     rw (access-same m m′ a 4 e, many-same left m m′ (regs / 2) (plus a 4) e, many-same left m m′ (regs / 2) a e)
 
-first-taken : (x : Access) (rest : Stored) → firstFault x rest ≡ Taken → (taken x ≡ Taken) × (rest ≡ Taken)
+pub first-taken : (x : Access) (rest : Stored) → firstFault x rest ≡ Taken → (taken x ≡ Taken) × (rest ≡ Taken)
 first-taken (Here p) rest h = (refl, h)
 first-taken (Not x) rest h = absurd (taken-or-not x h)
 
@@ -215,6 +245,8 @@ module _ (s : Cpu) (m : Memory) where
         answers = replies.store-answers s m sp Long _ refl;
         says = store-says s _ m sp Long (s .sr);
         stores-so = store-lies s _ m sp Long (s .sr);
+        lawful = tt;
+        enters-by = tt;
       }
 
   store-many-performs : (next regs a : ℕ) → Performs s m (storesMany regs a) (act s (withPc next s) (StoreMany regs a) m)
@@ -225,6 +257,8 @@ module _ (s : Cpu) (m : Memory) where
         answers = subst (λ (l : List Wanted). replies.Answers m l (taking s m (accessMany 16 m regs a) o)) (sym (append-nil _ ∙ many-places 16 (s .r) 0 regs a)) (replies.many-answers s s m regs a o refl);
         says = λ h. ap (λ (x : Outcome). x .stepped .vector) (taken-so s m (accessMany 16 m regs a) o h);
         stores-so = λ h. ap (λ (x : Outcome). x .storage) (taken-so s m (accessMany 16 m regs a) o h) ∙ many-stored 16 (s .r) 0 regs a m (was-taken s m (accessMany 16 m regs a) o h);
+        lawful = tt;
+        enters-by = tt;
       }
 
   load-many-performs : (t : Cpu) (regs a : ℕ) → Performs s m (loadsMany regs a) (act s t (LoadMany regs a) m)
@@ -234,14 +268,18 @@ module _ (s : Cpu) (m : Memory) where
         answers = replies.many-answers s s m regs a o refl;
         says = λ h. ap (λ (x : Outcome). x .stepped .vector) (taken-so s m (accessMany 16 m regs a) o h);
         stores-so = λ h. ap (λ (x : Outcome). x .storage) (taken-so s m (accessMany 16 m regs a) o h);
+        lawful = tt;
+        enters-by = tt;
       }
 
-  enter-performs : (w : Write) (vector pc : ℕ) → Performs s m (enters w vector pc) (entered s (handed w pc s) Kept vector pc m)
+  enter-performs : (w : Write) (vector pc : ℕ) → Vector (s .pc) w vector pc → Performs s m (enters w vector pc) (entered s (handed w pc s) Kept vector pc m)
   unfolding withParts
-  enter-performs w vector pc = record {
+  enter-performs w vector pc v = record {
     answers = replies.entered-answers s (handed w pc s) Kept vector pc m;
     says = entered-says s (handed w pc s) vector pc m;
     stores-so = λ h. entry.went s (handed w pc s) Kept vector pc m (done-is _ h) .storage;
+    lawful = v;
+    enters-by = refl;
   }
 
   return-performs : (next : ℕ) → Performs s m returns (returned s (withPc next s) m)
@@ -250,20 +288,24 @@ module _ (s : Cpu) (m : Memory) where
     answers = replies.returned-answers s (withPc next s) m;
     says = λ h. returned-reads s (withPc next s) m h .0;
     stores-so = λ h. returned-reads s (withPc next s) m h .1;
+    lawful = tt;
+    enters-by = tt;
   }
 
   pub performs : {e : Effect} {c : Change} → Does (s .pc) (s .sr) e c → Performs s m e (perform s c m)
   unfolding perform
   performs (does-nothing {c = c} h) =
       let q : Quiet m (act s (applied s c) (c .action) m) = quiet-act s (applied s c) m (c .action) h in
-      record { answers = q .number; says = λ e. q .vector; stores-so = λ e. q .same }
+      record { answers = q .number; says = λ e. q .vector; stores-so = λ e. q .same; lawful = tt; enters-by = tt }
   performs (does-store {c = c} {a = a} {z = z} {v = v} h) = subst (λ (x : Action). Performs s m (stores a z v) (act s (applied s c) x m)) (sym h) (record {
     answers = replies.store-answers s m a z _ refl;
     says = store-says s (applied s c) m a z v;
     stores-so = store-lies s (applied s c) m a z v;
+    lawful = tt;
+    enters-by = tt;
   })
   performs (does-push next v) = rw (perform-acting s next (PushStatus v) m) (push-performs next v)
   performs (does-store-many next {regs = regs} {a = a}) = rw (perform-acting s next (StoreMany regs a) m) (store-many-performs next regs a)
   performs (does-load-many next {regs = regs} {a = a}) = rw (perform-acting s next (LoadMany regs a) m) (load-many-performs (withPc next s) regs a)
-  performs (does-enter {w = w} {vector = vector} {pc = pc} v) = rw (entering s w vector pc m) (enter-performs w vector pc)
+  performs (does-enter {w = w} {vector = vector} {pc = pc} v) = rw (entering s w vector pc m) (enter-performs w vector pc v)
   performs (does-return next) = rw (perform-acting s next Return m) (return-performs next)

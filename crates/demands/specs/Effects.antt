@@ -353,6 +353,16 @@ pub data Vector (at : ℕ) : Write → ℕ → ℕ → Type 0 where
   line-f : Vector at noWrite 11 at
   trapped : {n : ℕ} → n < 16 → Vector at noWrite (32 + n) (plus at 2)
 
+-- an effect enters no other vectors than these
+abbrev pub Lawful : ℕ → Effect → Type 0
+Lawful at nothing = Unit {0}
+Lawful at (stores a z v) = Unit {0}
+Lawful at pushesStatus = Unit {0}
+Lawful at (storesMany regs a) = Unit {0}
+Lawful at (loadsMany regs a) = Unit {0}
+Lawful at (enters w vector pc) = Vector at w vector pc
+Lawful at returns = Unit {0}
+
 -- the vector that an effect enters, or 0
 abbrev pub vectorOf : Effect → ℕ
 vectorOf nothing = 0

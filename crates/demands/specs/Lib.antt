@@ -21,6 +21,7 @@ pub mod InstructionLaws
 pub mod ReplyLaws
 pub mod EffectLaws
 pub mod StepReplies
+pub mod Writes
 pub mod EntryReplies
 pub mod BlockRanges
 pub mod CallReplies

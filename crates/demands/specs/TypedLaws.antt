@@ -49,6 +49,7 @@ use Rattle.emac.specs.EmacKept.{macsr-small}
 use Rattle.block.specs.Typed.{Typed}
 use Rattle.demands.specs.Exact.{Bytes, Ready}
 use Rattle.demands.specs.AccessLaws.{accessing-all, taking-all}
+use Rattle.demands.specs.Effects.{handed}
 use Rattle.demands.specs.EntryLaws.{swaps}
 use Rattle.demands.specs.ValueLaws.{set-below, store-bytes, status-word, registers-typed, pc-typed, sr-typed, stopped-typed, address-typed, other-typed, emac-typed, after-typed}
 use Rattle.demands.specs.Steps.{Steps, none, one-more}
@@ -102,7 +103,7 @@ refusal-typed : (given : Cpu) (n : Reply) → Typed given → Typed (refusal giv
 unfolding refusal
 refusal-typed given n t = t
 
-set-sr-typed : (v : ℕ) (s : Cpu) → Typed s → Typed (setSr v s)
+pub set-sr-typed : (v : ℕ) (s : Cpu) → Typed s → Typed (setSr v s)
 unfolding setSr
 set-sr-typed v s t = after-typed s t (swaps v s) (status v) (status-word v)
 
@@ -164,6 +165,21 @@ set-ext-fits e u i v = with-ext-fits _ (with-ext-fits e u _ i _) _ (i + 1) _
 length-written : (w : Write) (g : List ℕ) → length (written w g) ≡ length g
 unfolding written
 length-written w g = either (λ x. length x ≡ length g) (ltb (w .to) 16) (set g (w .to) (w .value)) g (length-set g (w .to) (w .value)) refl
+
+-- the registers that an entry is made from: those after an operand's move
+pub handed-typed : (s : Cpu) (w : Write) (pc : ℕ) → Typed s → IsLong (w .value) → IsLong pc → Typed (handed w pc s)
+unfolding withParts
+handed-typed s w pc t v p = record {
+  sixteen = length-written w (s .r) ∙ t .sixteen;
+  registers = written-longs w (s .r) v (t .registers);
+  pc-long = p;
+  sr-word = t .sr-word;
+  other-long = t .other-long;
+  vbr-long = t .vbr-long;
+  cacr-long = t .cacr-long;
+  mask-long = t .mask-long;
+  four = t .four;
+}
 
 applied-typed : (s : Cpu) (c : Change) → Typed s → FitsLong c → Typed (applied s c)
 unfolding applied withParts coded
