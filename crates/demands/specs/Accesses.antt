@@ -4,7 +4,7 @@
 -- A step fetches its opcode word and makes the reads of the word's row; what it does to memory after them is listed in Effects.
 -- The reads stand in tables, line by line and row by row in the order of the rows. Where a read's address hangs on a word that was read
 -- before it, that word is what a load finds there. Assumes nothing.
-use Prim.Native.Nat.{ℕ, zero, suc, _+_, _/_, _%_}
+use Prim.Native.Nat.{ℕ, zero, suc, _/_, _%_}
 use mathlib.Core.Path.{_≡_}
 use mathlib.Core.Bool.{cond}
 use mathlib.Core.List.{List, [], _∷_, _++_}
@@ -23,13 +23,9 @@ use Rattle.manual.specs.declared.Place.the-variants.{D, A, M, I, Fault as NoPla
 use Rattle.manual.specs.declared.Reached.{Reached}
 use Rattle.manual.specs.declared.Reached.the-variants.{At, NoAddress}
 use Rattle.manual.specs.declared.Level.{Level}
-use Rattle.manual.specs.declared.Level.the-variants.{Kept}
-use Rattle.manual.specs.declared.Action.{Action}
-use Rattle.manual.specs.declared.Action.the-variants.{Nothing, Store, StoreMany, LoadMany, Enter, Return, Status, Stop, PushStatus, Halt, SetOther, Accumulate, SetAcc, SetExt, SetMacsr, SetMask, CopyAcc, ClearAcc, Refuse}
-use Rattle.manual.specs.declared.Change.{Change}
 use Rattle.manual.specs.Word.{bytes, plus, minus, signExtended}
 use Rattle.manual.specs.Fields.{bits, line, upper, upperMode, mode, register, sizeField, byteOrWord, lowByte, wordOperands}
-use Rattle.manual.specs.Registers.{addressOf, applied}
+use Rattle.manual.specs.Registers.{addressOf}
 use Rattle.manual.specs.Memory.{Memory, access, taken, numberAt}
 use Rattle.manual.specs.Address.{operand, operandOf, extension, locate, control}
 use Rattle.manual.specs.Differences.{anySize, vectorPlace}
@@ -37,7 +33,6 @@ use Rattle.manual.specs.Exceptions.{setSr, handlerSr, pcPlace, framePlace}
 use Rattle.instructions.specs.Rows.{firstRow, rowOf, placeIn}
 use Rattle.instructions.specs.Line6.{displacementBytes}
 use Rattle.instructions.specs.LineA.{loadAddress}
-use Rattle.instructions.specs.Step.{instruction}
 
 pub record Wanted : Type 0 where
   pub address : ℕ

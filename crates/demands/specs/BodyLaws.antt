@@ -1,5 +1,5 @@
 -- Which reads each body makes, and what it does then: line by line, those of Accesses and Effects. Assumes nothing.
-use Prim.Native.Nat.{ℕ, zero, suc, _+_, _-_, _/_, _%_}
+use Prim.Native.Nat.{ℕ, zero, suc, _+_, _%_}
 use mathlib.Core.Path.{_≡_, refl}
 use mathlib.Core.Bool.{Bool, true, false, cond}
 use mathlib.Core.List.{List, [], _∷_, _++_}
@@ -19,7 +19,6 @@ use Rattle.manual.specs.declared.Stored.the-variants.{Done as Taken}
 use Rattle.manual.specs.declared.Got.the-variants.{Value, Fault as NoValue}
 use Rattle.manual.specs.declared.Reached.{Reached}
 use Rattle.manual.specs.declared.Reached.the-variants.{At, NoAddress}
-use Rattle.manual.specs.declared.Write.{Write}
 use Rattle.manual.specs.declared.Logic.{Logic}
 use Rattle.manual.specs.declared.Logic.the-variants.{And, Or, Eor}
 use Rattle.manual.specs.declared.Operand.{Operand}
@@ -38,7 +37,7 @@ use Rattle.manual.specs.Address.{operand, extension, source, locate, value, con
 use Rattle.manual.specs.Differences.{anySize}
 use Rattle.manual.specs.Emac.{fractional, readExt}
 use Rattle.manual.specs.Exceptions.{supervisor}
-use Rattle.manual.specs.Change.{done, store, acting, enterAfter, enter, illegal, privilege, notCarried, jump, push, reading, reaching, result}
+use Rattle.manual.specs.Change.{done, store, acting, enter, illegal, privilege, notCarried, jump, push, reading, reaching, result}
 use Rattle.instructions.specs.Rows.{firstRow, placeIn}
 use Rattle.instructions.specs.Line0 as l0
 use Rattle.instructions.specs.Moves as moves

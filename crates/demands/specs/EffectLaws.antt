@@ -3,14 +3,13 @@
 use Prim.Native.Nat.{ℕ, zero, suc, _+_, _/_, _%_, _^_, _<_}
 use mathlib.Core.Path.{_≡_, refl, sym, ap, subst, _∙_}
 use mathlib.Core.Bool.{Bool, true, false, cond, false≢true}
-use mathlib.Core.List.{List, [], _∷_, _++_, append-nil}
+use mathlib.Core.List.{List, _∷_, _++_, append-nil}
 use native.Mathlib.Omega.{arith}
 use lib.Dec.{eqb}
 use lib.ListN.{length}
 use Rattle.manual.specs.declared.Cpu.{Cpu}
 use Rattle.manual.specs.declared.Size.{Size}
 use Rattle.manual.specs.declared.Size.the-variants.{Long}
-use Rattle.manual.specs.declared.Fault.{Fault}
 use Rattle.manual.specs.declared.Access.{Access}
 use Rattle.manual.specs.declared.Access.the-variants.{Here, Not}
 use Rattle.manual.specs.declared.Stored.{Stored}
@@ -21,10 +20,9 @@ use Rattle.manual.specs.declared.Action.{Action}
 use Rattle.manual.specs.declared.Action.the-variants.{Nothing, Store, StoreMany, LoadMany, Enter, Return, Status, Stop, PushStatus, Halt, SetOther, Accumulate, SetAcc, SetExt, SetMacsr, SetMask, CopyAcc, ClearAcc, Refuse}
 use Rattle.manual.specs.declared.Change.{Change}
 use Rattle.manual.specs.Word.{bytes, plus, minus}
-use Rattle.manual.specs.Flags.{keptCodes}
-use Rattle.manual.specs.Registers.{addressOf, general, noWrite, written, withParts, withPc, coded, applied}
+use Rattle.manual.specs.Registers.{addressOf, general, noWrite, written, withParts, withPc, applied}
 use Rattle.manual.specs.Memory.{Storage, Memory, storageOf, onStorage, storeAt, access, taken, load, storedIn, storing, stored, firstFault, accessMany, storedMany}
-use Rattle.manual.specs.Reply.{Outcome, completed, refusal, faultReply, taking}
+use Rattle.manual.specs.Reply.{Outcome, completed, refusal, taking}
 use Rattle.manual.specs.Change.{acting, enterAfter}
 use Rattle.manual.specs.Differences.{vectorPlace}
 use Rattle.manual.specs.Exceptions.{setSr, handlerSr, pcPlace, framePlace, entered, returned}
@@ -35,10 +33,10 @@ use Rattle.demands.specs.Exact.{numbered}
 use Rattle.demands.specs.Accesses.{Wanted, wanted, manyLongs}
 use Rattle.demands.specs.AccessLaws.{taken-or-not, fault-number, here-is, accessing-all, loading-all}
 use Rattle.demands.specs.EntryLaws as entry
-use Rattle.demands.specs.StepLaws.{applied-acting, coded-kept}
+use Rattle.demands.specs.StepLaws.{coded-kept, perform-acting}
 use Rattle.demands.specs.Refusals.{done-is}
 use Rattle.demands.specs.Effects.{Effect, nothing, stores, pushesStatus, storesMany, loadsMany, enters, returns, Vector, illegal-word, violation, zero-divide, line-a, line-f, trapped, Lawful, handed, Put, put, manyPuts, putsOf, readsOf, places, storedAll, vectorOf}
-use Rattle.demands.specs.PartLaws.{accessAll, numberOr, quiet, Does, does-nothing, does-store, does-push, does-store-many, does-load-many, does-enter, does-return}
+use Rattle.demands.specs.PartLaws.{quiet, Does, does-nothing, does-store, does-push, does-store-many, does-load-many, does-enter, does-return}
 use Rattle.demands.specs.ReplyLaws as replies
 
 -- an entry is `entered` from the registers after the operand's move
@@ -206,10 +204,6 @@ unfolding perform enterAfter acting applied noWrite written
 entering s w vector pc m = rw (coded-kept (s .sr))
 
 -- ---- every effect
-
-perform-acting : (s : Cpu) (next : ℕ) (a : Action) (m : Memory) → perform s (acting (s .sr) next noWrite a) m ≡ act s (withPc next s) a m
-unfolding perform acting
-perform-acting s next a m = ap (λ (t : Cpu). act s t a m) (applied-acting s next a)
 
 -- what is done has this vector
 abbrev Says : ℕ → Outcome → Type 0

@@ -20,7 +20,7 @@ use Rattle.manual.specs.Word.{plus, minus, signExtended}
 use Rattle.manual.specs.Fields.{line, register}
 use Rattle.manual.specs.Registers.{addressOf, noWrite}
 use Rattle.manual.specs.Memory.{Memory, access, taken, load, numberAt}
-use Rattle.manual.specs.Change.{acting, enterAfter, enter, illegal, notCarried, reading}
+use Rattle.manual.specs.Change.{acting, enter, illegal, notCarried, reading}
 use Rattle.word.specs.TestLaws.{by-lt}
 use Rattle.rows.specs.TableLaws.{agree, allBelow, below}
 use Rattle.rows.specs.RowLaws.{rowOf-fits, rowOf-is, unique, in-line}

@@ -7,9 +7,6 @@ pub mod FirstReplies
 pub mod EntryLaws
 pub mod StepLaws
 pub mod ValueLaws
-pub mod Undone
-pub mod Nesting
-pub mod NestingExample
 pub mod Refusals
 pub mod Runs
 pub mod FitLaws
@@ -22,6 +19,9 @@ pub mod ReplyLaws
 pub mod EffectLaws
 pub mod StepReplies
 pub mod Writes
+pub mod Undone
+pub mod Nesting
+pub mod NestingExample
 pub mod EntryReplies
 pub mod BlockRanges
 pub mod CallReplies

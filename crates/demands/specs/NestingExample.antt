@@ -6,7 +6,7 @@
 -- The numbers come out by computation; that the last return gives back what was handed to the first entry is said by
 -- `EntriesNest`. Assumes nothing.
 use Prim.Native.Nat.{ℕ, zero, suc, _+_, _/_, _%_, _^_, _<_}
-use mathlib.Core.Path.{_≡_, refl, ap}
+use mathlib.Core.Path.{_≡_, refl}
 use mathlib.Core.Bool.{true, false}
 use mathlib.Core.List.{List, [], _∷_, _++_}
 use mathlib.Core.Logic.{inl}
@@ -14,7 +14,7 @@ use native.Mathlib.Omega.{arith}
 use lib.Dec.{T, eqb, eqb→eq}
 use lib.ListN.{length, getD, set, replicate}
 use Rattle.manual.specs.declared.Cpu.{Cpu}
-use Rattle.manual.specs.declared.Size.the-variants.{Byte, Word}
+use Rattle.manual.specs.declared.Size.the-variants.{Byte}
 use Rattle.manual.specs.Word as word
 use Rattle.manual.specs.Bits as bits
 use Rattle.manual.specs.Flags as flags
@@ -42,7 +42,7 @@ use Rattle.state.specs.AdmittedLaws.{admitted-of}
 use Rattle.block.specs.Typed.{Typed}
 use Rattle.demands.specs.Exact.{Bytes, Values}
 use Rattle.demands.specs.ValueLaws.{set-below}
-use Rattle.demands.specs.Undone.{Enters, by-interrupt, trap-enters, Returns, by-rte, by-word, AtReturn, Undoes}
+use Rattle.demands.specs.Undone.{Enters, by-interrupt, every-entry, Returns, by-rte, by-word, AtReturn, Undoes}
 use Rattle.demands.specs.Nesting.{Pending, pending, leftBy, SameFrames, TouchesNone, Reached, start, entry, work, return, entries-nest}
 
 -- longs, the high byte of each first
@@ -294,10 +294,6 @@ entry-to : {es : List Pending} {s s′ handed : Cpu} {l : Lent} {pc vector : ℕ
     → answer ≡ completed s′ vector b → TouchesNone (registers.addressOf (s′ .r) 7) es → Reached (pending handed pc (completed s′ vector b) ∷ es) s′ (lent b)
 entry-to r enters e apart = entry r (rw e at enters) refl apart
 
-trap : {s′ : Cpu} {vector : ℕ} {b : Storage} (s : Cpu) (l : Lent) (n : ℕ) → Fits s l → n < 16 → memories.numberAt (memoryOf l) (s .pc) Word ≡ 0x4E40 + n
-    → step s l ≡ completed s′ vector b → Enters s l (registers.withPc (word.plus (s .pc) 2) s) (word.plus (s .pc) 2) (step s l)
-trap s l n f h w e = trap-enters s l n (f .0 .0) h w (ap (λ (x : Outcome). x .stepped .reply) e)
-
 work-to : {es : List Pending} {s s′ : Cpu} {l l′ : Lent} → Reached es s l → Fits s′ l′ → length (l′ .storage) ≡ length (l .storage) → SameFrames es (memoryOf l) (memoryOf l′)
     → Reached es s′ l′
 work-to r f n same = work r (f .0) (f .1) n same
@@ -310,10 +306,10 @@ to-deepest : Reached (third ∷ second ∷ first ∷ []) s7 m6
 unfolding memory state memories.load memories.access memories.valueAt word.plus registers.addressOf
 to-deepest =
     let begun : Reached [] s0 m0 = start (facts .at-0 .0) (facts .at-0 .1) in
-    let in-a : Reached (first ∷ []) s1 m1 = entry-to begun (trap s0 m0 0 (facts .at-0) (omega arith) refl (answers-are .trap-0)) (answers-are .trap-0) tt in
+    let in-a : Reached (first ∷ []) s1 m1 = entry-to begun (every-entry .trap-enters s0 m0 0 (omega arith) refl) (answers-are .trap-0) tt in
     let d0-pushed : Reached (first ∷ []) s2 m2 = work-to in-a (facts .at-2) refl (eight _ m1 m2 tt, tt) in
     let d1-pushed : Reached (first ∷ []) s3 m3 = work-to d0-pushed (facts .at-3) refl (eight _ m2 m3 tt, tt) in
-    let in-b : Reached (second ∷ first ∷ []) s4 m4 = entry-to d1-pushed (trap s3 m3 1 (facts .at-3) (omega arith) refl (answers-are .trap-1)) (answers-are .trap-1) (inl (omega arith), tt) in
+    let in-b : Reached (second ∷ first ∷ []) s4 m4 = entry-to d1-pushed (every-entry .trap-enters s3 m3 1 (omega arith) refl) (answers-are .trap-1) (inl (omega arith), tt) in
     let pushed : Reached (second ∷ first ∷ []) s5 m5 = work-to in-b (facts .at-5) refl (eight _ m4 m5 tt, (eight _ m4 m5 tt, tt)) in
     let nine : Reached (second ∷ first ∷ []) s6 m5 = work-to pushed (facts .at-6) refl (λ j h. refl, (λ j h. refl, tt)) in
     entry-to nine (by-interrupt 29 5 (omega arith)) (answers-are .interrupted) (inl (omega arith), (inl (omega arith), tt))

@@ -11,27 +11,23 @@ use Rattle.manual.specs.declared.Cpu.{Cpu}
 use Rattle.manual.specs.declared.Level.{Level}
 use Rattle.manual.specs.declared.Size.{Size}
 use Rattle.manual.specs.declared.Size.the-variants.{Long}
-use Rattle.manual.specs.declared.Fault.{Fault}
 use Rattle.manual.specs.declared.Fault.the-variants.{Outside as Out}
 use Rattle.manual.specs.declared.Access.{Access}
 use Rattle.manual.specs.declared.Access.the-variants.{Here, Not}
 use Rattle.manual.specs.declared.Stored.{Stored}
 use Rattle.manual.specs.declared.Stored.the-variants.{Done as Taken, Fault as NotTaken}
-use Rattle.manual.specs.declared.Action.{Action}
-use Rattle.manual.specs.declared.Action.the-variants.{Nothing, Store, StoreMany, LoadMany, Enter, Return, Status, Stop, PushStatus, Halt, SetOther, Accumulate, SetAcc, SetExt, SetMacsr, SetMask, CopyAcc, ClearAcc, Refuse}
-use Rattle.manual.specs.declared.Change.{Change}
-use Rattle.manual.specs.Word.{bytes, plus, minus}
-use Rattle.manual.specs.Registers.{addressOf, applied}
+use Rattle.manual.specs.Word.{bytes, plus}
+use Rattle.manual.specs.Registers.{addressOf}
 use Rattle.manual.specs.Memory.{Memory, storageOf, access, taken, found, load, storing, firstFault, accessMany}
-use Rattle.manual.specs.Reply.{numberOf, Outcome, unchanged, refusal, faultReply, accessing, loading, taking}
+use Rattle.manual.specs.Reply.{numberOf, Outcome, unchanged, refusal, accessing, loading, taking}
 use Rattle.manual.specs.Admitted.{admitted}
 use Rattle.manual.specs.Lent.{Lent, memoryOf, firstRefusal, checked}
 use Rattle.manual.specs.Differences.{vectorPlace}
 use Rattle.manual.specs.Change.{notCarried, refuse}
 use Rattle.manual.specs.Exceptions.{setSr, handlerSr, pcPlace, framePlace, entered, returned}
-use Rattle.instructions.specs.Perform.{statusPushed, act, perform}
+use Rattle.instructions.specs.Perform.{perform}
 use Rattle.demands.specs.Accesses.{Wanted, wanted, Inside, Outside, SomeOutside, this, another, entryAt, returnAt, manyLongs}
-use Rattle.demands.specs.AccessLaws.{taken-or-not, fault-number, accessing-all, loading-all, taking-all}
+use Rattle.demands.specs.AccessLaws.{taken-or-not}
 use Rattle.demands.specs.FirstReplies.{first-1, first-2, first-of}
 use Rattle.demands.specs.PartLaws.{accessAll, numberOr, some-outside}
 use Rattle.demands.specs.Exact.{numbered, TooLong, Usable, Ready, OneOf}

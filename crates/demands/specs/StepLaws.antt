@@ -1,5 +1,5 @@
--- What a step does at a word that enters or returns: TRAP and RTE. Assumes nothing.
-use Prim.Native.Nat.{ℕ, _+_, _/_, _%_, _<_}
+-- A step up to its instruction, and the words TRAP and RTE. Assumes nothing.
+use Prim.Native.Nat.{ℕ, _+_, _<_}
 use mathlib.Core.Path.{_≡_, refl, ap, _∙_}
 use mathlib.Core.Bool.{Bool, true, false, cond}
 use mathlib.Core.List.{List}
@@ -8,9 +8,8 @@ use lib.Dec.{eqb, T, eqb→eq}
 use Rattle.manual.specs.declared.Cpu.{Cpu}
 use Rattle.manual.specs.declared.Emac.{Emac}
 use Rattle.manual.specs.declared.Action.{Action}
-use Rattle.manual.specs.declared.Action.the-variants.{Enter, Return}
+use Rattle.manual.specs.declared.Action.the-variants.{Return}
 use Rattle.manual.specs.declared.Change.{Change}
-use Rattle.manual.specs.declared.Level.the-variants.{Kept}
 use Rattle.manual.specs.declared.Size.the-variants.{Word}
 use Rattle.manual.specs.declared.Reply.the-variants.{Done, Stopped as Stop}
 use Rattle.manual.specs.declared.Fault.{Fault}
@@ -21,13 +20,13 @@ use Rattle.manual.specs.Word.{plus}
 use Rattle.manual.specs.Flags.{keptCodes}
 use Rattle.manual.specs.Registers.{noWrite, written, withParts, withPc, coded, applied}
 use Rattle.manual.specs.Memory.{Memory, access, taken, numberAt}
-use Rattle.manual.specs.Change.{acting, enterAfter, enter, refused, refuse}
+use Rattle.manual.specs.Change.{acting, refused, refuse}
 use Rattle.manual.specs.Reply.{Outcome, unchanged, faultReply}
 use Rattle.manual.specs.Lent.{Lent, memoryOf}
-use Rattle.manual.specs.Exceptions.{supervisor, entered, returned}
+use Rattle.manual.specs.Exceptions.{supervisor, returned}
 use Rattle.instructions.specs.Rows.{firstRow, rowOf, placeIn}
-use Rattle.instructions.specs.Line4.{line4, trap, rte}
-use Rattle.instructions.specs.Perform.{perform}
+use Rattle.instructions.specs.Line4.{line4, rte}
+use Rattle.instructions.specs.Perform.{act, perform}
 use Rattle.instructions.specs.Step.{instruction, execute, step}
 use Rattle.rows.specs.TableLaws.{allBelow, below}
 use Rattle.demands.specs.Accesses.{Inside}
@@ -48,13 +47,9 @@ pub applied-acting : (s : Cpu) (next : ℕ) (a : Action) → applied s (acting (
 unfolding applied acting withParts withPc written noWrite
 applied-acting s next a = rw (coded-kept (s .sr))
 
-pub perform-enter : (s : Cpu) (vector pc : ℕ) (m : Memory) → perform s (enter (s .sr) vector pc) m ≡ entered s (withPc pc s) Kept vector pc m
-unfolding perform enter enterAfter acting
-perform-enter s vector pc m = rw (applied-acting s pc (Enter vector pc))
-
-pub perform-return : (s : Cpu) (next : ℕ) (m : Memory) → perform s (acting (s .sr) next noWrite Return) m ≡ returned s (withPc next s) m
+pub perform-acting : (s : Cpu) (next : ℕ) (a : Action) (m : Memory) → perform s (acting (s .sr) next noWrite a) m ≡ act s (withPc next s) a m
 unfolding perform acting
-perform-return s next m = rw (applied-acting s next Return)
+perform-acting s next a m = ap (λ (t : Cpu). act s t a m) (applied-acting s next a)
 
 -- ---- the words
 
@@ -62,7 +57,7 @@ trap-rows : T (allBelow (λ n. eqb (rowOf (0x4E40 + n)) (firstRow 4 + 23)) 16)
 unfolding rowOf
 trap-rows = tt
 
-trap-row : (n : ℕ) → n < 16 → rowOf (0x4E40 + n) ≡ firstRow 4 + 23
+pub trap-row : (n : ℕ) → n < 16 → rowOf (0x4E40 + n) ≡ firstRow 4 + 23
 trap-row n h = eqb→eq _ _ (below (λ n. eqb (rowOf (0x4E40 + n)) (firstRow 4 + 23)) 16 trap-rows n h)
 
 rte-row : rowOf 0x4E73 ≡ firstRow 4 + 2
@@ -70,13 +65,6 @@ unfolding rowOf
 rte-row = refl
 
 module _ (g : List ℕ) (at sr other : ℕ) (e : Emac) (m : Memory) where
-  pub trap-word : (n : ℕ) → n < 16 → instruction g at sr other e m (0x4E40 + n) ≡ enter sr (32 + n) (plus at 2)
-  unfolding instruction line4 placeIn trap
-  trap-word n h =
-      let line : (0x4E40 + n) / 0x1000 % 16 ≡ 4 = omega arith in
-      let low : (0x4E40 + n) % 16 ≡ n = omega arith in
-      rw (line, trap-row n h, low)
-
   pub rte-word : supervisor sr ≡ true → instruction g at sr other e m 0x4E73 ≡ acting sr (plus at 2) noWrite Return
   unfolding instruction line4 placeIn rte
   rte-word h = rw (rte-row, h)
@@ -132,21 +120,14 @@ pub step-on : (s : Cpu) (l : Lent) → Ready s l → s .stopped ≡ false → st
 unfolding step
 step-on s l ready awake = goes-on s l _ ready ∙ second-of (s .stopped) awake _ _
 
--- TRAP and RTE as steps
+-- RTE as a step
 module _ (s : Cpu) (l : Lent) where
   abbrev m : Memory
   m = memoryOf l
-
-  pub step-trap : (n : ℕ) → n < 16 → numberAt m (s .pc) Word ≡ 0x4E40 + n → Stepped s l
-      → step s l ≡ entered s (withPc (plus (s .pc) 2) s) Kept (32 + n) (plus (s .pc) 2) m
-  step-trap n h w d =
-      d .same
-      ∙ ap (λ (c : Change). perform s c m) (fetched (s .r) (s .pc) (s .sr) (s .other) (s .emac) m (0x4E40 + n) (d .fetch) w ∙ trap-word (s .r) (s .pc) (s .sr) (s .other) (s .emac) m n h)
-      ∙ perform-enter s (32 + n) (plus (s .pc) 2) m
 
   pub step-rte : Ready s l → s .stopped ≡ false → Inside m (s .pc) 2 → numberAt m (s .pc) Word ≡ 0x4E73 → supervisor (s .sr) ≡ true
       → step s l ≡ returned s (withPc (plus (s .pc) 2) s) m
   step-rte ready awake i w h =
       step-on s l ready awake
       ∙ ap (λ (c : Change). perform s c m) (fetched (s .r) (s .pc) (s .sr) (s .other) (s .emac) m 0x4E73 i w ∙ rte-word (s .r) (s .pc) (s .sr) (s .other) (s .emac) m h)
-      ∙ perform-return s (plus (s .pc) 2) m
+      ∙ perform-acting s (plus (s .pc) 2) Return m

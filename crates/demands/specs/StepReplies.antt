@@ -17,14 +17,11 @@ use Rattle.manual.specs.declared.Stored.the-variants.{Done as Taken, Fault as N
 use Rattle.manual.specs.declared.Reply.the-variants.{Stopped}
 use Rattle.manual.specs.declared.Change.{Change}
 use Rattle.manual.specs.Memory.{Memory, access, taken, numberAt}
-use Rattle.manual.specs.Change.{done, jump, notCarried}
 use Rattle.manual.specs.Reply.{numberOf, isDone, Outcome, unchanged, refusal, faultReply}
 use Rattle.manual.specs.Admitted.{admitted}
 use Rattle.manual.specs.Lent.{Lent, memoryOf, lentOn, firstRefusal}
 use Rattle.rows.specs.TableLaws.{allBelow, below}
 use Rattle.instructions.specs.Rows.{firstRow, rowOf, placeIn}
-use Rattle.instructions.specs.Line0.{bitrev, line0}
-use Rattle.instructions.specs.Line4.{nop, line4}
 use Rattle.instructions.specs.Perform.{perform}
 use Rattle.instructions.specs.Step.{instruction, step}
 use Rattle.instructions.specs.Run.{RunOutcome, run}

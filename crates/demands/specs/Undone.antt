@@ -6,24 +6,26 @@
 -- The entries are the calls `exception`, at every level, and `interrupt`, and a step that enters a vector, TRAP among them; the
 -- returns are the call `rte` and the word RTE as a step. Assumes nothing.
 use Prim.Native.Nat.{ℕ, _+_, _/_, _%_, _^_, _≤_, _<_}
-use mathlib.Core.Path.{_≡_, refl, sym, ap, _∙_}
+use mathlib.Core.Path.{_≡_, refl, sym, ap, subst, _∙_}
 use mathlib.Core.Bool.{Bool, true, false, cond}
 use native.Mathlib.Omega.{arith}
 use lib.Dec.{eqb, ltb}
 use lib.ListN.{length, getD, length-set}
 use Rattle.manual.specs.declared.Cpu.{Cpu}
+use Rattle.manual.specs.declared.Write.{Write}
 use Rattle.manual.specs.declared.Level.{Level}
 use Rattle.manual.specs.declared.Level.the-variants.{Kept, To}
 use Rattle.manual.specs.declared.Size.the-variants.{Byte, Word}
 use Rattle.manual.specs.declared.Reply.the-variants.{Done, OutOfRange, Masked}
 use Rattle.manual.specs.Word.{plus}
-use Rattle.manual.specs.Registers.{addressOf, withAddress, withPc, withStopped}
+use Rattle.manual.specs.Registers.{addressOf, noWrite, written, withParts, withAddress, withPc, withStopped}
 use Rattle.manual.specs.Memory.{Storage, Memory, storageOf, numberAt, valueAt}
-use Rattle.manual.specs.Reply.{Outcome, completed, unchanged}
+use Rattle.manual.specs.Reply.{numberOf, Outcome, completed, unchanged}
 use Rattle.manual.specs.Admitted.{status, admitted}
 use Rattle.manual.specs.Lent.{Lent, memoryOf, lentOn}
 use Rattle.manual.specs.Differences.{frameBytes, vectorPlace}
 use Rattle.manual.specs.Exceptions.{supervisor, twoStacks, setSr, handlerSr, frameLong, pcPlace, framePlace, handlerState, entered, returnState, returned, levelTaken, masked, exception, interrupt, rte}
+use Rattle.instructions.specs.Rows.{placeIn}
 use Rattle.instructions.specs.Step.{step}
 use Rattle.word.specs.WordLaws.{plus-below}
 use Rattle.memory.specs.MemoryLaws.{length-store}
@@ -32,23 +34,28 @@ use Rattle.state.specs.FirstLaws.{first-admitted, first-kept}
 use Rattle.exceptions.specs.EntryAdmitted.{returned-admitted}
 use Rattle.block.specs.Typed.{Typed}
 use Rattle.demands.specs.Accesses.{Inside}
-use Rattle.demands.specs.Exact.{Values, Ready}
+use Rattle.demands.specs.Effects.{Effect, nothing, stores, pushesStatus, storesMany, loadsMany, enters, returns, Vector, Lawful, handed, effects4, effect, effectOf}
+use Rattle.demands.specs.Exact.{Values, Ready, numbered}
 use Rattle.demands.specs.AccessLaws.{byte-is}
 use Rattle.demands.specs.EntryLaws as laws
 use Rattle.demands.specs.StepLaws as steps
 use Rattle.demands.specs.ValueLaws as values
+use Rattle.demands.specs.Refusals.{done-is}
+use Rattle.demands.specs.TypedLaws.{handed-typed}
+use Rattle.demands.specs.EffectLaws.{VectorFits, vector-fits, EntersBy, Performs}
+use Rattle.demands.specs.StepReplies.{of-effect}
 
 -- the registers that an instruction hands to an entry after its own operand's move: a state as the types say, and admitted
 pub record HandedOn (handed : Cpu) : Type 0 where
   pub typed : Typed handed
   pub admits : admitted handed ≡ true
 
--- the entries from the state s and what is lent, l: the registers and the program counter that the entry is handed, and what it answers
+-- the entries from the state s and what is lent, l: the registers and the program counter that the entry is handed, and what it answers.
+-- A step enters where its row does (Effects), and hands on the registers after its operand's move
 pub data Enters (s : Cpu) (l : Lent) : Cpu → ℕ → Outcome → Type 0 where
   by-exception : (vector pc : ℕ) (level : Level) → vector < 256 → pc < 2 ^ 32 → Enters s l s pc (exception s l vector pc level)
   by-interrupt : (vector level : ℕ) → vector < 256 → Enters s l s (s .pc) (interrupt s l vector level)
-  by-step : {handed : Cpu} (vector pc : ℕ) → vector < 256 → pc < 2 ^ 32 → HandedOn handed → step s l ≡ entered s handed Kept vector pc (memoryOf l)
-      → Enters s l handed pc (step s l)
+  by-step : (w : Write) (vector pc : ℕ) → effectOf s (memoryOf l) ≡ enters w vector pc → Enters s l (handed w pc s) pc (step s l)
 
 -- the returns on the state s and what is lent, l, and what they answer
 pub data Returns (s : Cpu) (l : Lent) : Outcome → Type 0 where
@@ -90,14 +97,35 @@ EntryIsUndone =
     → AsLeft (entry .stepped .cpu) (lentOn l (entry .storage)) s₂ l₂ → Returns s₂ l₂ answer
     → Undoes handed pc (l₂ .storage) answer
 
--- a TRAP that is done is such an entry: it hands on the registers as they are and the program counter after its word
-abbrev pub TrapEnters : Type 0
-TrapEnters =
-    (s : Cpu) (l : Lent) (n : ℕ) → Typed s → n < 16 → numberAt (memoryOf l) (s .pc) Word ≡ 0x4E40 + n → step s l .stepped .reply ≡ Done
-    → let next : ℕ = plus (s .pc) 2 in
-    Enters s l (withPc next s) next (step s l)
+-- every step that is done and gives a vector: the row's vector and program counter, w being its operand's move
+pub record StepEntry (s : Cpu) (l : Lent) : Type 0 where
+  pub w : Write
+  pub vector : ℕ
+  pub pc : ℕ
+  pub listed : effectOf s (memoryOf l) ≡ enters w vector pc
+  -- illegal, privilege, line A and line F with the word's program counter, divide by zero and TRAP with the next one's
+  pub kind : Vector (s .pc) w vector pc
+  pub vector-is : step s l .stepped .vector ≡ vector
+  -- it is entered from the registers after the operand's move
+  pub is : step s l ≡ entered s (handed w pc s) Kept vector pc (memoryOf l)
+
+pub record EveryEntry : Type 0 where
+  pub step-enters : (s : Cpu) (l : Lent) → numbered (step s l) ≡ 0 → (step s l .stepped .vector ≡ 0 → ⊥) → StepEntry s l
+  -- and its return undoes it
+  pub step-undone : (s : Cpu) (l : Lent) → Values s (l .storage) → numbered (step s l) ≡ 0 → (e : StepEntry s l)
+      → (s₂ : Cpu) (l₂ : Lent) (answer : Outcome) → Values s₂ (l₂ .storage) → admitted s₂ ≡ true
+      → AsLeft (step s l .stepped .cpu) (lentOn l (step s l .storage)) s₂ l₂ → Returns s₂ l₂ answer
+      → Undoes (handed (e .w) (e .pc) s) (e .pc) (l₂ .storage) answer
+  -- a TRAP hands on the registers as they are, and the program counter after its word
+  pub trap-enters : (s : Cpu) (l : Lent) (n : ℕ) → n < 16 → numberAt (memoryOf l) (s .pc) Word ≡ 0x4E40 + n
+      → let next : ℕ = plus (s .pc) 2 in
+      Enters s l (withPc next s) next (step s l)
 
 -- ---- the proofs
+
+handed-admitted : (s : Cpu) (w : Write) (pc : ℕ) → admitted s ≡ true → admitted (handed w pc s) ≡ true
+unfolding admitted withParts
+handed-admitted s w pc h = h
 
 -- every entry is `entered`, of the registers that it is handed, and every return is `returned`, of the state with some program counter
 
@@ -113,7 +141,7 @@ pub record Way (s : Cpu) (l : Lent) (handed : Cpu) (pc : ℕ) (entry : Outcome) 
 pub way : (s : Cpu) (l : Lent) (handed : Cpu) (pc : ℕ) (entry : Outcome) → Values s (l .storage) → Enters s l handed pc entry → entry .stepped .reply ≡ Done
     → Way s l handed pc entry
 unfolding exception interrupt
-way s l handed pc entry typed (by-exception vector at level v p) e =
+way s l given pc entry typed (by-exception vector at level v p) e =
     let m : Memory = memoryOf l in
     let w : laws.Open s l (cond (levelTaken level) (entered s s level vector pc m) (unchanged s OutOfRange m)) (exception s l vector pc level) = laws.opened s l _ e in
     record {
@@ -125,7 +153,7 @@ way s l handed pc entry typed (by-exception vector at level v p) e =
       fits = p;
       is = w .same ∙ laws.passed (levelTaken level) OutOfRange laws.out-of-range-not s m _ (rw (w .same) at e);
     }
-way s l handed pc entry typed (by-interrupt vector level v) e =
+way s l given pc entry typed (by-interrupt vector level v) e =
     let m : Memory = memoryOf l in
     let i : Outcome = entered s s (To level) vector (s .pc) m in
     let k : Outcome = cond (masked (s .sr) level) (unchanged s Masked m) i in
@@ -140,15 +168,20 @@ way s l handed pc entry typed (by-interrupt vector level v) e =
       fits = typed .0 .pc-long;
       is = w .same ∙ one ∙ laws.not-passed (masked (s .sr) level) Masked laws.masked-not s m i (rw (w .same, one) at e);
     }
-way s l handed pc entry typed (by-step vector at v p on is) e =
-    record { level = Kept; vector = vector; ready = steps.stepped s l e .ready; on = on; small = v; fits = p; is = is }
-
-pub trap-enters : TrapEnters
-trap-enters s l n typed h w e =
-    let d : steps.Stepped s l = steps.stepped s l e in
-    let next : ℕ = plus (s .pc) 2 in
-    let on : HandedOn (withPc next s) = record { typed = values.pc-typed s typed next (plus-below (s .pc) 2); admits = pc-admitted next s (first-admitted s l (d .ready)) } in
-    by-step (32 + n) next (omega arith) (plus-below (s .pc) 2) on (steps.step-trap s l n h w d)
+way s l given pc entry typed (by-step w vector at h) e =
+    let m : Memory = memoryOf l in
+    let p : Performs s m (effectOf s m) (step s l) = of-effect s l (ap numberOf e) in
+    let f : VectorFits (s .pc) w vector pc = vector-fits (subst (Lawful (s .pc)) h (p .lawful)) in
+    let ready : Ready s l = steps.stepped s l e .ready in
+    record {
+      level = Kept;
+      vector = vector;
+      ready = ready;
+      on = record { typed = handed-typed s w pc (typed .0) (f .move-long) (f .pc-long (typed .0 .pc-long)); admits = handed-admitted s w pc (first-admitted s l ready) };
+      small = f .small;
+      fits = f .pc-long (typed .0 .pc-long);
+      is = subst (EntersBy s m (step s l)) h (p .enters-by);
+    }
 
 record WayBack (s : Cpu) (l : Lent) (answer : Outcome) : Type 0 where
   at : ℕ
@@ -313,7 +346,7 @@ pub record Gone (handed : Cpu) (pc : ℕ) (s₂ : Cpu) (l₂ : Lent) (answer : O
 
 module _ (s : Cpu) (l : Lent) (handed : Cpu) (pc : ℕ) (entry : Outcome) (w : Way s l handed pc entry) (e : entry .stepped .reply ≡ Done)
     (s₂ : Cpu) (l₂ : Lent) (answer : Outcome) (typed₂ : Values s₂ (l₂ .storage)) (taken₂ : admitted s₂ ≡ true)
-    (kept : AsLeft (entry .stepped .cpu) (lentOn l (entry .storage)) s₂ l₂) (returns : Returns s₂ l₂ answer) where
+    (kept : AsLeft (entry .stepped .cpu) (lentOn l (entry .storage)) s₂ l₂) (back-by : Returns s₂ l₂ answer) where
   pub gone : Gone handed pc s₂ l₂ answer
   gone =
       let m : Memory = memoryOf l in
@@ -323,7 +356,7 @@ module _ (s : Cpu) (l : Lent) (handed : Cpu) (pc : ℕ) (entry : Outcome) (w : W
       let long : length (l₂ .storage) ≡ length (l .storage) = as-long handed m pc (w .level) (w .vector) (w .on) (w .small) (w .fits) _ l₁ x s₂ l₂ n₂ kept in
       let ready₂ : Ready s₂ l₂ = first-kept s s₂ l (l₂ .storage) long taken₂ (w .ready) in
       let n : Named handed (w .level) (entry .stepped .cpu) = named handed m pc (w .level) (w .vector) _ _ (w .on .typed .sixteen) x in
-      let r : WayBack s₂ l₂ answer = way-back s₂ l₂ answer typed₂ ready₂ (kept .at-return .same-s ∙ n .in-s) returns in
+      let r : WayBack s₂ l₂ answer = way-back s₂ l₂ answer typed₂ ready₂ (kept .at-return .same-s ∙ n .in-s) back-by in
       record {
         level = w .level;
         at = r .at;
@@ -341,5 +374,37 @@ gone-undoes handed pc s₂ l₂ answer g = record {
 }
 
 pub entry-is-undone : EntryIsUndone
-entry-is-undone s l handed pc entry typed enters e s₂ l₂ answer typed₂ taken₂ kept returns =
-    gone-undoes _ _ _ _ _ (gone s l handed pc entry (way s l handed pc entry typed enters e) e s₂ l₂ answer typed₂ taken₂ kept returns)
+entry-is-undone s l given pc entry typed entered-by e s₂ l₂ answer typed₂ taken₂ kept back-by =
+    gone-undoes _ _ _ _ _ (gone s l given pc entry (way s l given pc entry typed entered-by e) e s₂ l₂ answer typed₂ taken₂ kept back-by)
+
+-- ---- a step that gives a vector
+
+entry-of : (s : Cpu) (l : Lent) (e : Effect) → effectOf s (memoryOf l) ≡ e → Performs s (memoryOf l) e (step s l) → numbered (step s l) ≡ 0
+    → (step s l .stepped .vector ≡ 0 → ⊥) → StepEntry s l
+entry-of s l nothing h p d n = absurd (n (p .says d))
+entry-of s l (stores a z v) h p d n = absurd (n (p .says d))
+entry-of s l pushesStatus h p d n = absurd (n (p .says d))
+entry-of s l (storesMany regs a) h p d n = absurd (n (p .says d))
+entry-of s l (loadsMany regs a) h p d n = absurd (n (p .says d))
+entry-of s l (enters w vector pc) h p d n = record { w = w; vector = vector; pc = pc; listed = h; kind = p .lawful; vector-is = p .says d; is = p .enters-by }
+entry-of s l returns h p d n = absurd (n (p .says d))
+
+trap-effect : (s : Cpu) (m : Memory) (n : ℕ) → n < 16 → numberAt m (s .pc) Word ≡ 0x4E40 + n → effectOf s m ≡ enters noWrite (32 + n) (plus (s .pc) 2)
+unfolding effect effects4 placeIn
+trap-effect s m n h w =
+    let line : (0x4E40 + n) / 0x1000 % 16 ≡ 4 = omega arith in
+    let low : (0x4E40 + n) % 16 ≡ n = omega arith in
+    rw (w, line, steps.trap-row n h, low)
+
+trap-enters : (s : Cpu) (l : Lent) (n : ℕ) → n < 16 → numberAt (memoryOf l) (s .pc) Word ≡ 0x4E40 + n
+    → let next : ℕ = plus (s .pc) 2 in
+    Enters s l (withPc next s) next (step s l)
+unfolding withParts withPc written noWrite
+trap-enters s l n h w = by-step noWrite (32 + n) (plus (s .pc) 2) (trap-effect s (memoryOf l) n h w)
+
+pub every-entry : EveryEntry
+every-entry = record {
+  step-enters = λ s l d n. entry-of s l (effectOf s (memoryOf l)) refl (of-effect s l d) d n;
+  step-undone = λ s l typed d e. entry-is-undone s l (handed (e .w) (e .pc) s) (e .pc) (step s l) typed (by-step (e .w) (e .vector) (e .pc) (e .listed)) (done-is _ d);
+  trap-enters = trap-enters;
+}

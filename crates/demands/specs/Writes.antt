@@ -13,10 +13,7 @@ use lib.Dec.{eqb}
 use lib.ListN.{length, getD, set, length-set}
 use lib.Seq.{getD-set-same}
 use Rattle.manual.specs.declared.Cpu.{Cpu}
-use Rattle.manual.specs.declared.Write.{Write}
 use Rattle.manual.specs.declared.Size.the-variants.{Byte}
-use Rattle.manual.specs.declared.Access.{Access}
-use Rattle.manual.specs.declared.Access.the-variants.{Here, Not}
 use Rattle.manual.specs.declared.Stored.{Stored}
 use Rattle.manual.specs.declared.Stored.the-variants.{Done as Taken, Fault as NotTaken}
 use Rattle.manual.specs.Word.{plus}
