@@ -191,9 +191,9 @@ read-admitted b = by (ltb (length b) 5) (eqb (valueAt b 0 1) 1) (eqb (length b) 
     by false true false w e = fresh-admitted
     by false false z w e = fresh-admitted
 
-image-admitted : (f : List ℕ) → isDone (imageReply f) ≡ true → admitted (imageState f) ≡ true
+image-admitted : (f : List ℕ) (m : Storage) → isDone (imageReply f m) ≡ true → admitted (imageState f) ≡ true
 unfolding imageReply
-image-admitted f = by (ltb (length f) 5) (eqb (valueAt f 0 1) 1) (leb 14 l && (leb l (imageMemory + 14) && eqb (length f) (5 + l))) (admitted (imageState f))
+image-admitted f m = by (ltb (length f) 5) (eqb (valueAt f 0 1) 1) (leb 14 l && (leb l (imageMemory + 14) && (eqb (length f) (5 + l) && eqb (length m) imageMemory))) (admitted (imageState f))
   where
     l : ℕ
     l = valueAt f 1 4
@@ -207,13 +207,12 @@ image-admitted f = by (ltb (length f) 5) (eqb (valueAt f 0 1) 1) (leb 14 l && (l
 
 load-admitted : (f : List ℕ) (m : Storage) → admitted (loadImage f m .cpu) ≡ true
 unfolding loadImage
-load-admitted f m = by (eqb (length m) imageMemory) (isDone (imageReply f)) refl
+load-admitted f m = by (isDone (imageReply f m)) refl
   where
-    by : (a b : Bool) → isDone (imageReply f) ≡ b
-        → admitted (cond {A = Image} a (cond b (image (imageReply f) (imageBudget f) (imageState f) (imageBytes f)) (notLoaded (imageReply f) m)) (notLoaded WrongLength m) .cpu) ≡ true
-    by true true e = image-admitted f e
-    by true false e = fresh-admitted
-    by false b e = fresh-admitted
+    by : (b : Bool) → isDone (imageReply f m) ≡ b
+        → admitted (cond {A = Image} b (image (imageReply f m) (imageBudget f) (imageState f) (imageBytes f)) (notLoaded (imageReply f m) m) .cpu) ≡ true
+    by true e = image-admitted f m e
+    by false e = fresh-admitted
 
 pub admits : Admits
 admits = record {

@@ -1,6 +1,6 @@
 -- When the calls on the state alone, on blocks and on files give each reply. Assumes nothing.
 use Prim.Native.Nat.{ℕ, _+_, _≤_, _<_}
-use mathlib.Core.Path.{_≡_, refl}
+use mathlib.Core.Path.{_≡_, refl, _∙_}
 use mathlib.Core.Bool.{Bool, true, false, cond, _&&_, false≢true}
 use mathlib.Core.List.{List, [], _∷_}
 use mathlib.Core.Logic.{_↔_, _⊎_, ⊎-elim, inl, inr}
@@ -234,17 +234,22 @@ module _ (b : List ℕ) where
       laws.same-of l (store-number s)
       (laws.either-of l (eqb (length b) 128) _ 9 (laws.either-of l (admitted s) 0 2 (inl refl) (inr (inl refl))) (inr (inr (inl refl))))
 
-module _ (f : List ℕ) where
+-- a file is read into a memory
+module _ (f : List ℕ) (m : Storage) where
   abbrev says : ℕ
   says = valueAt f 1 4
 
   abbrev matches : Bool
-  matches = leb 14 says && (leb says (imageMemory + 14) && eqb (length f) (5 + says))
+  matches = leb 14 says && (leb says (imageMemory + 14) && (eqb (length f) (5 + says) && eqb (length m) imageMemory))
 
-  image-number : numberOf (imageReply f) ≡ four (ltb (length f) 5) (eqb (valueAt f 0 1) 1) matches (admitted (imageState f))
-  unfolding imageReply
-  image-number = by (ltb (length f) 5) (eqb (valueAt f 0 1) 1) matches (admitted (imageState f))
+  load-number : numberOf (loadImage f m .reply) ≡ four (ltb (length f) 5) (eqb (valueAt f 0 1) 1) matches (admitted (imageState f))
+  unfolding loadImage imageReply
+  load-number = same (isDone (imageReply f m)) ∙ by (ltb (length f) 5) (eqb (valueAt f 0 1) 1) matches (admitted (imageState f))
     where
+      same : (b : Bool) → numberOf (cond {A = Image} b (image (imageReply f m) (imageBudget f) (imageState f) (imageBytes f)) (notLoaded (imageReply f m) m) .reply) ≡ numberOf (imageReply f m)
+      same true = refl
+      same false = refl
+
       by : (x y z w : Bool) → numberOf (cond x WrongLength (cond y (cond z (cond w Done NotAdmitted) WrongLength) WrongVersion)) ≡ four x y z w
       by true y z w = refl
       by false true true true = refl
@@ -252,62 +257,34 @@ module _ (f : List ℕ) where
       by false true false w = refl
       by false false z w = refl
 
-  matching : (matches ≡ true) ↔ ((14 ≤ says) × ((says ≤ 49166) × (length f ≡ 5 + says)))
+  matching : (matches ≡ true) ↔ ((14 ≤ says) × ((says ≤ 49166) × ((length f ≡ 5 + says) × (length m ≡ 49152))))
   matching =
-      laws.iff-trans (laws.iff-both (leb 14 says) (leb says 49166 && eqb (length f) (5 + says)))
+      laws.iff-trans (laws.iff-both (leb 14 says) (leb says 49166 && (eqb (length f) (5 + says) && eqb (length m) 49152)))
       (laws.iff-and (laws.iff-le 14 says)
-      (laws.iff-trans (laws.iff-both (leb says 49166) (eqb (length f) (5 + says))) (laws.iff-and (laws.iff-le says 49166) (laws.iff-eq (length f) (5 + says)))))
+      (laws.iff-trans (laws.iff-both (leb says 49166) (eqb (length f) (5 + says) && eqb (length m) 49152))
+      (laws.iff-and (laws.iff-le says 49166)
+      (laws.iff-trans (laws.iff-both (eqb (length f) (5 + says)) (eqb (length m) 49152)) (laws.iff-and (laws.iff-eq (length f) (5 + says)) (laws.iff-eq (length m) 49152))))))
 
-  pub of-image-9 : (numberOf (imageReply f) ≡ 9)
-      ↔ ((length f < 5) ⊎ ((5 ≤ length f) × ((valueAt f 0 1 ≡ 1) × ((14 ≤ says) × ((says ≤ 49166) × (length f ≡ 5 + says)) → ⊥))))
-  of-image-9 =
-      rw image-number
+  pub of-load-9 : (numberOf (loadImage f m .reply) ≡ 9)
+      ↔ ((length f < 5) ⊎ ((5 ≤ length f) × ((valueAt f 0 1 ≡ 1) × ((14 ≤ says) × ((says ≤ 49166) × ((length f ≡ 5 + says) × (length m ≡ 49152))) → ⊥))))
+  of-load-9 =
+      rw load-number
       (laws.iff-trans (four-9 (ltb (length f) 5) (eqb (valueAt f 0 1) 1) matches (admitted (imageState f)))
       (laws.iff-or (laws.iff-lt (length f) 5)
       (laws.iff-and (laws.iff-not-lt (length f) 5) (laws.iff-and (laws.iff-eq (valueAt f 0 1) 1) (laws.iff-not matches matching)))))
 
-  pub of-image-8 : (numberOf (imageReply f) ≡ 8) ↔ ((5 ≤ length f) × (valueAt f 0 1 ≡ 1 → ⊥))
-  of-image-8 =
-      rw image-number
+  pub of-load-8 : (numberOf (loadImage f m .reply) ≡ 8) ↔ ((5 ≤ length f) × (valueAt f 0 1 ≡ 1 → ⊥))
+  of-load-8 =
+      rw load-number
       (laws.iff-trans (four-8 (ltb (length f) 5) (eqb (valueAt f 0 1) 1) matches (admitted (imageState f)))
       (laws.iff-and (laws.iff-not-lt (length f) 5) (laws.iff-not-eq (valueAt f 0 1) 1)))
 
-  pub of-image-2 : (numberOf (imageReply f) ≡ 2)
-      ↔ ((5 ≤ length f) × ((valueAt f 0 1 ≡ 1) × (((14 ≤ says) × ((says ≤ 49166) × (length f ≡ 5 + says))) × (admitted (imageState f) ≡ false))))
-  of-image-2 =
-      rw image-number
+  pub of-load-2 : (numberOf (loadImage f m .reply) ≡ 2)
+      ↔ ((5 ≤ length f) × ((valueAt f 0 1 ≡ 1) × (((14 ≤ says) × ((says ≤ 49166) × ((length f ≡ 5 + says) × (length m ≡ 49152)))) × (admitted (imageState f) ≡ false))))
+  of-load-2 =
+      rw load-number
       (laws.iff-trans (four-2 (ltb (length f) 5) (eqb (valueAt f 0 1) 1) matches (admitted (imageState f)))
       (laws.iff-and (laws.iff-not-lt (length f) 5) (laws.iff-and (laws.iff-eq (valueAt f 0 1) 1) (laws.iff-and matching laws.iff-same))))
 
-  pub image-of : OneOf (0 ∷ 2 ∷ 8 ∷ 9 ∷ []) (numberOf (imageReply f))
-  image-of = laws.same-of (0 ∷ 2 ∷ 8 ∷ 9 ∷ []) image-number (four-of (ltb (length f) 5) (eqb (valueAt f 0 1) 1) matches (admitted (imageState f)))
-
-  -- the file is read into a memory
-  module _ (m : Storage) where
-    load-number : numberOf (loadImage f m .reply) ≡ pick (eqb (length m) imageMemory) (numberOf (imageReply f)) 9
-    unfolding loadImage
-    load-number = by (eqb (length m) imageMemory) (isDone (imageReply f))
-      where
-        by : (a b : Bool)
-            → numberOf (cond {A = Image} a (cond b (image (imageReply f) (imageBudget f) (imageState f) (imageBytes f)) (notLoaded (imageReply f) m)) (notLoaded WrongLength m) .reply) ≡ pick a (numberOf (imageReply f)) 9
-        by true true = refl
-        by true false = refl
-        by false b = refl
-
-    pub of-load-9 : (numberOf (loadImage f m .reply) ≡ 9) ↔ ((length m ≡ 49152 → ⊥) ⊎ ((length m ≡ 49152) × (numberOf (imageReply f) ≡ 9)))
-    of-load-9 = rw load-number (by (eqb (length m) imageMemory) (laws.iff-eq (length m) imageMemory))
-      where
-        by : (a : Bool) → ((a ≡ true) ↔ (length m ≡ 49152))
-            → (pick a (numberOf (imageReply f)) 9 ≡ 9) ↔ ((length m ≡ 49152 → ⊥) ⊎ ((length m ≡ 49152) × (numberOf (imageReply f) ≡ 9)))
-        by true e = (λ h. inr (e .0 refl, h), ⊎-elim (λ n. absurd (n (e .0 refl))) (λ h. h .1))
-        by false e = (λ h. inl (λ x. false≢true (e .1 x)), λ h. refl)
-
-    pub of-load : (k : ℕ) → (9 ≡ k → ⊥) → (numberOf (loadImage f m .reply) ≡ k) ↔ ((length m ≡ 49152) × (numberOf (imageReply f) ≡ k))
-    of-load k n =
-        rw load-number
-        (laws.iff-trans (laws.later-else k (numberOf (imageReply f)) 9 n (eqb (length m) imageMemory)) (laws.iff-and (laws.iff-eq (length m) imageMemory) laws.iff-same))
-
-    pub load-of : OneOf (0 ∷ 2 ∷ 8 ∷ 9 ∷ []) (numberOf (loadImage f m .reply))
-    load-of =
-        let l : List ℕ = 0 ∷ 2 ∷ 8 ∷ 9 ∷ [] in
-        laws.same-of l load-number (laws.either-of l (eqb (length m) imageMemory) _ 9 image-of (inr (inr (inr (inl refl)))))
+  pub load-of : OneOf (0 ∷ 2 ∷ 8 ∷ 9 ∷ []) (numberOf (loadImage f m .reply))
+  load-of = laws.same-of (0 ∷ 2 ∷ 8 ∷ 9 ∷ []) load-number (four-of (ltb (length f) 5) (eqb (valueAt f 0 1) 1) matches (admitted (imageState f)))

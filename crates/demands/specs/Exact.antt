@@ -32,7 +32,7 @@ use Rattle.manual.specs.Lent.{Lent, memoryOf, lentOn, lentRefusal, firstRefusal
 use Rattle.manual.specs.Exceptions.{exception, interrupt, rte, push32, pop32, setSrCall, ipl, supervisorCall}
 use Rattle.manual.specs.EmacCalls.{accGetCall, accSetCall, accPhysCall, setAccPhysCall, setMacsrCall}
 use Rattle.manual.specs.Block.{readBlock, storeBlock}
-use Rattle.manual.specs.Image.{imageState, imageReply, loadImage}
+use Rattle.manual.specs.Image.{imageState, loadImage}
 use Rattle.instructions.specs.Step.{step}
 use Rattle.instructions.specs.Run.{RunOutcome, run}
 use Rattle.block.specs.Typed.{Typed}
@@ -226,19 +226,16 @@ pub record Reply8And9 : Type 0 where
   pub read-block-0 : (b : List ℕ) → (numberOf (readBlock b .reply) ≡ 0) ↔ (BlockForm b × (OutOfRanges b → ⊥))
   pub store-block-9 : (s : Cpu) (b : List ℕ) → (numberOf (storeBlock s b .reply) ≡ 9) ↔ (length b ≡ 128 → ⊥)
   pub store-block-2 : (s : Cpu) (b : List ℕ) → (numberOf (storeBlock s b .reply) ≡ 2) ↔ ((length b ≡ 128) × (admitted s ≡ false))
-  -- an image file says how many bytes follow its first five: 14 to 49,166
-  pub image-9 : (f : List ℕ)
+  -- an image file says how many bytes follow its first five, 14 to 49,166, and is read into a memory of 49,152 bytes
+  pub load-image-9 : (f : List ℕ) (m : Storage)
       → let l : ℕ = valueAt f 1 4 in
-      (numberOf (imageReply f) ≡ 9) ↔ ((length f < 5) ⊎ ((5 ≤ length f) × ((valueAt f 0 1 ≡ 1) × ((14 ≤ l) × ((l ≤ 49166) × (length f ≡ 5 + l)) → ⊥))))
-  pub image-8 : (f : List ℕ) → (numberOf (imageReply f) ≡ 8) ↔ ((5 ≤ length f) × (valueAt f 0 1 ≡ 1 → ⊥))
-  pub image-2 : (f : List ℕ)
+      (numberOf (loadImage f m .reply) ≡ 9)
+      ↔ ((length f < 5) ⊎ ((5 ≤ length f) × ((valueAt f 0 1 ≡ 1) × ((14 ≤ l) × ((l ≤ 49166) × ((length f ≡ 5 + l) × (length m ≡ 49152))) → ⊥))))
+  pub load-image-8 : (f : List ℕ) (m : Storage) → (numberOf (loadImage f m .reply) ≡ 8) ↔ ((5 ≤ length f) × (valueAt f 0 1 ≡ 1 → ⊥))
+  pub load-image-2 : (f : List ℕ) (m : Storage)
       → let l : ℕ = valueAt f 1 4 in
-      (numberOf (imageReply f) ≡ 2)
-      ↔ ((5 ≤ length f) × ((valueAt f 0 1 ≡ 1) × (((14 ≤ l) × ((l ≤ 49166) × (length f ≡ 5 + l))) × (admitted (imageState f) ≡ false))))
-  -- and it is read into a memory of 49,152 bytes
-  pub load-image-9 : (f : List ℕ) (m : Storage) → (numberOf (loadImage f m .reply) ≡ 9) ↔ ((length m ≡ 49152 → ⊥) ⊎ ((length m ≡ 49152) × (numberOf (imageReply f) ≡ 9)))
-  pub load-image-8 : (f : List ℕ) (m : Storage) → (numberOf (loadImage f m .reply) ≡ 8) ↔ ((length m ≡ 49152) × (numberOf (imageReply f) ≡ 8))
-  pub load-image-2 : (f : List ℕ) (m : Storage) → (numberOf (loadImage f m .reply) ≡ 2) ↔ ((length m ≡ 49152) × (numberOf (imageReply f) ≡ 2))
+      (numberOf (loadImage f m .reply) ≡ 2)
+      ↔ ((5 ≤ length f) × ((valueAt f 0 1 ≡ 1) × (((14 ≤ l) × ((l ≤ 49166) × ((length f ≡ 5 + l) × (length m ≡ 49152)))) × (admitted (imageState f) ≡ false))))
 
 -- a call gives no other reply than these, so 0 exactly where it gives none of the others
 pub record NoOthers : Type 0 where

@@ -4,7 +4,6 @@ use mathlib.Core.Path.{_≡_, sym, ap}
 use mathlib.Core.Bool.{false≢true}
 use mathlib.Core.List.{[], _∷_}
 use mathlib.Core.Logic.{_↔_}
-use native.Mathlib.Omega.{arith}
 use Rattle.manual.specs.declared.Cpu.{Cpu}
 use Rattle.manual.specs.declared.Level.the-variants.{Kept, To}
 use Rattle.manual.specs.Admitted.{admitted}
@@ -20,7 +19,7 @@ use Rattle.demands.specs.FirstReplies.{usable-is, ready-is, first-1, fir
 use Rattle.demands.specs.Exact.{Ready, Meanings, Reply0, Reply1, Reply2, Reply3, Reply4, Reply5, Reply6, Reply7, Reply8And9, NoOthers}
 use Rattle.demands.specs.StepReplies.{of-step-0, of-vector, of-run-0, of-step-1, of-step-2, of-step-3, of-step-4, of-step-5, of-step, of-nop, of-bitrev, of-run-1, of-run-2, of-run-3, of-run-4, of-run-5, of-run}
 use Rattle.demands.specs.EntryReplies.{of-exception-0, of-interrupt-0, of-rte-0, of-push-0, of-pop-0, of-exception-1, of-exception-2, of-exception-4, of-exception-6, of-exception, of-interrupt-1, of-interrupt-2, of-interrupt-4, of-interrupt-6, of-interrupt-7, of-interrupt, of-rte-1, of-rte-2, of-rte-4, of-rte, of-push-1, of-push-2, of-push-4, of-push, of-pop-1, of-pop-2, of-pop-4, of-pop}
-use Rattle.demands.specs.CallReplies.{set-sr-number, told-number, not-2, zero-or-2, acc-2, acc-6, acc-of, acc-get-number, acc-phys-number, acc-set-number, set-acc-phys-number, set-macsr-number, of-read-9, of-read-8, of-read-0, of-read-2, read-of, of-store-9, of-store-2, store-of, of-image-9, of-image-8, of-image-2, of-load-9, of-load, load-of}
+use Rattle.demands.specs.CallReplies.{set-sr-number, told-number, not-2, zero-or-2, acc-2, acc-6, acc-of, acc-get-number, acc-phys-number, acc-set-number, set-acc-phys-number, set-macsr-number, of-read-9, of-read-8, of-read-0, of-read-2, read-of, of-store-9, of-store-2, store-of, of-load-9, of-load-8, of-load-2, load-of}
 
 pub meanings : Meanings
 meanings = record { usable = usable-is; ready = ready-is; first-1 = first-1; first-2 = first-2; first-of = first-of; inside = inside-is; outside = outside-is }
@@ -108,12 +107,9 @@ reply-8-and-9 = record {
   read-block-2 = of-read-2;
   store-block-9 = λ s b. of-store-9 b s;
   store-block-2 = λ s b. of-store-2 b s;
-  image-9 = of-image-9;
-  image-8 = of-image-8;
-  image-2 = of-image-2;
   load-image-9 = of-load-9;
-  load-image-8 = λ f m. of-load f m 8 (λ h. omega arith);
-  load-image-2 = λ f m. of-load f m 2 (λ h. omega arith);
+  load-image-8 = of-load-8;
+  load-image-2 = of-load-2;
 }
 
 pub no-others : NoOthers

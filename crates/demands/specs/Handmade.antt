@@ -1,11 +1,11 @@
 -- The document's examples that were checked by hand, as one table with a single claim, by computation straight from the definition
--- of a step, of `exception` and `rte`, and of the rows. Document: "Checked by hand", the examples marked *. Assumes nothing.
-use Prim.Native.Nat.{ℕ, _+_, _-_, _/_, _%_, _^_}
+-- of a step, of `exception` and of `rte`. Document: "Checked by hand", the examples marked *. Assumes nothing.
+use Prim.Native.Nat.{ℕ, _+_, _/_, _%_, _^_}
 use mathlib.Core.Path.{_≡_, refl}
-use mathlib.Core.Bool.{false}
-use mathlib.Core.List.{List, [], _∷_, map}
+use mathlib.Core.Bool.{false, cond}
+use mathlib.Core.List.{List, [], _∷_, _++_, map}
 use lib.Count.{leadingZeros}
-use lib.ListN.{getD, replicate}
+use lib.ListN.{getD, set, replicate}
 use Rattle.manual.specs.declared.Cpu.{Cpu}
 use Rattle.manual.specs.declared.Level.the-variants.{Kept}
 use Rattle.manual.specs.declared.Size.the-variants.{Long}
@@ -25,7 +25,7 @@ use Rattle.manual.specs.Lent as lents
 use Rattle.manual.specs.Lent.{Lent, lent, memoryOf}
 use Rattle.manual.specs.Change as change
 use Rattle.manual.specs.Exceptions as exceptions
-use Rattle.instructions.specs.Rows.{value, mask, rowOf, placeIn}
+use Rattle.instructions.specs.Rows.{rowOf, placeIn}
 use Rattle.manual.specs.Block.{fresh}
 use Rattle.instructions.specs.Line0 as l0
 use Rattle.instructions.specs.Line4 as l4
@@ -69,39 +69,49 @@ bytesOf (w ∷ ws) = (w / 0x100) ∷ (w % 0x100) ∷ bytesOf ws
 abbrev program : List ℕ → Lent
 program words = lent (bytesOf words)
 
--- a state with these D0, D1 and D2, status register and MACSR, and the rest 0
-abbrev state : ℕ → ℕ → ℕ → ℕ → ℕ → Cpu
-state d0 d1 d2 sr macsr =
-    registers.withAll (d0 ∷ d1 ∷ d2 ∷ replicate 13 0) 0 sr 0 (record { macsr = macsr; mask = 0; acc = replicate 4 0 }) false fresh
+-- a state with these sixteen registers, status register, MACSR and accumulators, and the rest 0
+abbrev state : List ℕ → ℕ → ℕ → List ℕ → Cpu
+state g sr macsr acc = registers.withAll g 0 sr 0 (record { macsr = macsr; mask = 0; acc = acc }) false fresh
+
+abbrev zeros : ℕ → List ℕ
+zeros n = replicate n 0
 
 -- the reply's number, D0, D1, D2 and the condition codes after one step of a program, from D0, D1, D2 and the condition codes
 abbrev after : List ℕ → ℕ → ℕ → ℕ → ℕ → List ℕ
 after words d0 d1 d2 codes =
-    let o : Outcome = step (state d0 d1 d2 (0x2700 + codes) 0) (program words) in
+    let o : Outcome = step (state (d0 ∷ d1 ∷ d2 ∷ zeros 13) (0x2700 + codes) 0 (zeros 4)) (program words) in
     numberOf (o .stepped .reply)
     ∷ getD (o .stepped .cpu .r) 0 0 ∷ getD (o .stepped .cpu .r) 1 0 ∷ getD (o .stepped .cpu .r) 2 0
     ∷ (o .stepped .cpu .sr % 0x20) ∷ []
 
--- the reply's number and accumulator 0 after one step of a program, from D0 and MACSR
-abbrev accumulated : List ℕ → ℕ → ℕ → List ℕ
-accumulated words d0 macsr =
-    let o : Outcome = step (state d0 0 0 0x2700 macsr) (program words) in
-    numberOf (o .stepped .reply) ∷ getD (o .stepped .cpu .emac .acc) 0 0 ∷ []
+-- the same for D3, A4 and the condition codes, from D3 and A3
+abbrev afterD3A3 : ℕ → ℕ → ℕ → List ℕ
+afterD3A3 word d3 a3 =
+    let o : Outcome = step (state (set (set (zeros 16) 3 d3) 11 a3) 0x2700 0 (zeros 4)) (program (word ∷ [])) in
+    numberOf (o .stepped .reply) ∷ getD (o .stepped .cpu .r) 3 0 ∷ getD (o .stepped .cpu .r) 12 0 ∷ (o .stepped .cpu .sr % 0x20) ∷ []
+
+-- the reply's number, whether the core is stopped, the byte at 2 and the condition codes after a word, from that byte, A0 being 2
+abbrev afterByte : ℕ → ℕ → List ℕ
+afterByte word byte =
+    let o : Outcome = step (state (set (zeros 16) 8 2) 0x2700 0 (zeros 4)) (lent (bytesOf (word ∷ []) ++ (byte ∷ []))) in
+    numberOf (o .stepped .reply) ∷ cond (o .stepped .cpu .stopped) 1 0 ∷ getD (o .storage) 2 0 ∷ (o .stepped .cpu .sr % 0x20) ∷ []
+
+-- the reply's number and the accumulators 0 and 1 after one step of a program, from D0, A4, MACSR and accumulator 0
+abbrev accumulated : List ℕ → ℕ → ℕ → ℕ → ℕ → List ℕ
+accumulated words d0 a4 macsr acc0 =
+    let o : Outcome = step (state (set (set (zeros 16) 0 d0) 12 a4) 0x2700 macsr (acc0 ∷ zeros 3)) (program words) in
+    numberOf (o .stepped .reply) ∷ getD (o .stepped .cpu .emac .acc) 0 0 ∷ getD (o .stepped .cpu .emac .acc) 1 0 ∷ []
 
 -- an entry with A7, and then the return: A7, the frame's two longs, A7 and the program counter
 abbrev undone : ℕ → ℕ → ℕ → ℕ → List ℕ
 undone a7 sr vector pc =
-    let s : Cpu = registers.withAddress 7 a7 (state 0 0 0 sr 0) in
-    let o : Outcome = exceptions.exception s (lent (replicate 0x110 0)) vector pc Kept in
+    let s : Cpu = state (set (zeros 16) 15 a7) sr 0 (zeros 4) in
+    let o : Outcome = exceptions.exception s (lent (zeros 0x110)) vector pc Kept in
     let l : Lent = lent (o .storage) in
     let at : ℕ = registers.addressOf (o .stepped .cpu .r) 7 in
     let b : Outcome = exceptions.rte (o .stepped .cpu) l in
     at ∷ memory.numberAt (memoryOf l) at Long ∷ memory.numberAt (memoryOf l) (at + 4) Long
     ∷ registers.addressOf (b .stepped .cpu .r) 7 ∷ b .stepped .cpu .pc ∷ []
-
--- words that two rows fit
-abbrev twoFit : List ℕ
-twoFit = 0x49C3 ∷ 0x49D3 ∷ 0x4AC8 ∷ 0x4AD0 ∷ 0xA110 ∷ 0xA114 ∷ []
 
 pub examples : List Example
 examples =
@@ -125,16 +135,22 @@ examples =
     ∷ (after (0x04C0 ∷ []) 0 0 0 0 is 0 ∷ 32 ∷ 0 ∷ 0 ∷ Z ∷ [])
     ∷ (after (0x04C0 ∷ []) 0x0080_0000 0 0 0 is 0 ∷ 8 ∷ 0 ∷ 0 ∷ 0 ∷ [])
     -- fractional product 0x80000000 squared: +2^39, added to an accumulator that is 0
-    ∷ (accumulated (0xA000 ∷ 0x0800 ∷ []) 0x8000_0000 0x20 is 0 ∷ (2 ^ 39) ∷ [])
+    ∷ (accumulated (0xA000 ∷ 0x0800 ∷ []) 0x8000_0000 0 0x20 0 is 0 ∷ (2 ^ 39) ∷ 0 ∷ [])
     -- A7 0x103, SR 0x2700, vector 32: frame at 0xF8, first long 0x70802700, A7 0xF8; return gives 0x103
     ∷ (undone 0x103 0x2700 32 0x1234 is 0xF8 ∷ 0x7080_2700 ∷ 0x1234 ∷ 0x103 ∷ 0x1234 ∷ [])
-    -- 49C3 is EXTB, 49D3 LEA; 4AC8 HALT, 4AD0 TAS; A110 copy, A114 a write to ACC: the values and the fixed bits of their rows
-    ∷ (map (λ w. value (rowOf w)) twoFit is 0x49C0 ∷ 0x41C0 ∷ 0x4AC8 ∷ 0x4AC0 ∷ 0xA110 ∷ 0xA100 ∷ [])
-    ∷ (map (λ w. mask (rowOf w)) twoFit is 0xFFF8 ∷ 0xF1C0 ∷ 0xFFFF ∷ 0xFFC0 ∷ 0xF9FC ∷ 0xF9C0 ∷ [])
-    -- the write is from (A4): with A4 at 0, ACC0 is the long there, 0xA1140007 as a signed number
-    ∷ (accumulated (0xA114 ∷ 0x0007 ∷ []) 0 0 is 0 ∷ (2 ^ 48 + 0xA114_0007 - 2 ^ 32) ∷ [])
+    -- 49C3 is EXTB: D3's low byte is extended. 49D3 is LEA: A4 gets A3
+    ∷ (afterD3A3 0x49C3 0x1280 0x5678 is 0 ∷ 0xFFFF_FF80 ∷ 0 ∷ N ∷ [])
+    ∷ (afterD3A3 0x49D3 0x1280 0x5678 is 0 ∷ 0x1280 ∷ 0x5678 ∷ 0 ∷ [])
+    -- 4AC8 is HALT: the core stops. 4AD0 is TAS: bit 7 of the byte at (A0) is set, and Z says that it was 0
+    ∷ (afterByte 0x4AC8 0 is 0 ∷ 1 ∷ 0 ∷ 0 ∷ [])
+    ∷ (afterByte 0x4AD0 0 is 0 ∷ 0 ∷ 0x80 ∷ Z ∷ [])
+    -- A110 is a copy, of ACC0 to itself; A310, the same with ACC1 in its destination's bits, copies ACC0 there
+    ∷ (accumulated (0xA110 ∷ []) 0 0 0 7 is 0 ∷ 7 ∷ 0 ∷ [])
+    ∷ (accumulated (0xA310 ∷ []) 0 0 0 7 is 0 ∷ 7 ∷ 7 ∷ [])
+    -- A114 is a write from (A4): ACC0 gets the long there
+    ∷ (accumulated (0xA114 ∷ 0 ∷ 0x1234 ∷ 0x5678 ∷ []) 0 4 0 7 is 0 ∷ 0x1234_5678 ∷ 0 ∷ [])
     ∷ [])
 
 pub checked-by-hand : map (λ x. x .given) examples ≡ map (λ x. x .said) examples
-unfolding examples step execute bits.withBit instruction perform rowOf placeIn admitted.admitted admitted.status admitted.emacAdmitted memory.load memory.valueAt memory.storeAt word.cut word.merged word.plus word.minus word.sizeOf word.signedAt word.signExtended registers.dataOf registers.addressOf registers.general registers.noWrite registers.writeData registers.written registers.withParts registers.withAddress registers.withPc registers.withSr registers.withStopped registers.withEmac registers.coded registers.applied address.operand address.extension address.source address.value address.fetch address.locate address.moved change.done change.acting flags.codes flags.keptCodes flags.moveCodes flags.added flags.subtracted flags.sumOrDifference flags.sumCodes l9.sums l9.addToData le.lineE le.shift le.shifted le.shiftCount shift.shiftedLeft shift.signedShiftedRight shift.shiftCodes l4.line4 l4.divL l4.divided divide.signedQuotient divide.overflowCodes l0.line0 l0.ff1 leadingZeros la.lineA la.mac la.macRegisters la.moveToEmac la.setting emac.modeOf emac.accOf emac.withAcc emac.withSum emac.accumulate emac.setAcc exceptions.setSr exceptions.handlerSr exceptions.frameLong exceptions.handlerState exceptions.entered exceptions.returnState exceptions.returned exceptions.exception exceptions.rte fresh lents.lentRefusal lents.stateRefusal lents.firstRefusal memory.access
+unfolding examples step execute bits.withBit instruction perform rowOf placeIn admitted.admitted admitted.status admitted.emacAdmitted memory.load memory.valueAt memory.storeAt memory.storing memory.stored word.cut word.merged word.plus word.minus word.sizeOf word.signedAt word.signExtended registers.dataOf registers.addressOf registers.general registers.noWrite registers.writeData registers.writeAddress registers.written registers.withParts registers.withAddress registers.withPc registers.withSr registers.withStopped registers.withEmac registers.coded registers.applied address.operand address.extension address.source address.value address.fetch address.locate address.moved address.control address.destinationOf change.done change.acting change.store change.put change.putTo flags.codes flags.keptCodes flags.moveCodes flags.added flags.subtracted flags.sumOrDifference flags.sumCodes l9.sums l9.addToData le.lineE le.shift le.shifted le.shiftCount shift.shiftedLeft shift.signedShiftedRight shift.shiftCodes l4.line4 l4.divL l4.divided l4.extb l4.lea l4.halt l4.tas divide.signedQuotient divide.overflowCodes l0.line0 l0.ff1 leadingZeros la.lineA la.mac la.macRegisters la.moveToEmac la.setting la.moveAccToAcc emac.modeOf emac.accOf emac.withAcc emac.withSum emac.accumulate emac.setAcc emac.copyAcc exceptions.setSr exceptions.handlerSr exceptions.frameLong exceptions.handlerState exceptions.entered exceptions.returnState exceptions.returned exceptions.exception exceptions.rte fresh lents.lentRefusal lents.stateRefusal lents.firstRefusal memory.access
 checked-by-hand = refl

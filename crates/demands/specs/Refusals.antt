@@ -34,7 +34,7 @@ use Rattle.manual.specs.Differences.{vectorPlace}
 use Rattle.manual.specs.Exceptions.{setSr, handlerSr, pcPlace, framePlace, entered, returned, levelTaken, masked, exception, interrupt, rte, push32, notPopped, popped, pop32, setSrCall, told, ipl, supervisorCall}
 use Rattle.manual.specs.EmacCalls.{accGetCall, accSetCall, accPhysCall, setAccPhysCall, setMacsrCall}
 use Rattle.manual.specs.Block.{fresh, notRead, saysAdmitted, stateAt, readBlock, blockOf, Stored, storeBlock}
-use Rattle.manual.specs.Image.{imageMemory, imageState, imageReply, imageBudget, imageBytes, Image, image, notLoaded, loadImage}
+use Rattle.manual.specs.Image.{imageState, imageReply, imageBudget, imageBytes, Image, image, notLoaded, loadImage}
 use Rattle.instructions.specs.Perform.{statusPushed, act, perform}
 use Rattle.instructions.specs.Step.{execute, step}
 use Rattle.demands.specs.AccessLaws.{accessing-all, loading-all, taking-all}
@@ -301,23 +301,13 @@ store-kept s b h = store-by (eqb (length b) 128) (admitted s) (blockOf s) b h
 
 load-kept : (f : List ℕ) (m : Storage) → NotZero (loadImage f m .reply) → ((loadImage f m .cpu ≡ fresh) × (loadImage f m .storage ≡ m)) × (loadImage f m .budget ≡ 0)
 unfolding loadImage
-load-kept f m = by (eqb (length m) imageMemory) (imageReply f)
+load-kept f m = by (isDone (imageReply f m)) refl
   where
-    inner : (b : Bool) (n : Reply) → isDone n ≡ b
-        → let i : Image = cond b (image n (imageBudget f) (imageState f) (imageBytes f)) (notLoaded n m) in
-        NotZero n → ((i .cpu ≡ fresh) × (i .storage ≡ m)) × (i .budget ≡ 0)
-    inner true n e h = absurd (done-not (rw (is-done n e) at h))
-    inner false n e h = ((refl, refl), refl)
-
-    same : (b : Bool) (n : Reply) → cond b (image n (imageBudget f) (imageState f) (imageBytes f)) (notLoaded n m) .reply ≡ n
-    same true n = refl
-    same false n = refl
-
-    by : (a : Bool) (n : Reply)
-        → let i : Image = cond a (cond (isDone n) (image n (imageBudget f) (imageState f) (imageBytes f)) (notLoaded n m)) (notLoaded WrongLength m) in
+    by : (b : Bool) → isDone (imageReply f m) ≡ b
+        → let i : Image = cond b (image (imageReply f m) (imageBudget f) (imageState f) (imageBytes f)) (notLoaded (imageReply f m) m) in
         NotZero (i .reply) → ((i .cpu ≡ fresh) × (i .storage ≡ m)) × (i .budget ≡ 0)
-    by true n h = inner (isDone n) n refl (rw (same (isDone n) n) at h)
-    by false n h = ((refl, refl), refl)
+    by true e h = absurd (done-not (rw (is-done (imageReply f m) e) at h))
+    by false e h = ((refl, refl), refl)
 
 pub refusals : Refusals
 refusals = record {

@@ -37,7 +37,7 @@ use Rattle.manual.specs.Differences.{vectorPlace}
 use Rattle.manual.specs.Exceptions.{setSr, handlerSr, pcPlace, framePlace, handlerState, entered, returnState, returned, levelTaken, masked, exception, interrupt, rte, push32, popped, pop32, setSrCall}
 use Rattle.manual.specs.EmacCalls.{accChanged, accSetCall, setAccPhysCall, setMacsrCall}
 use Rattle.manual.specs.Block.{fresh, versionAt, lengthAt, headBytes, blockBytes, blockRest, registersAt, pcAt, srAt, otherAt, vbrAt, cacrAt, maskAt, longsAt, emacAt, stateAt, saysAdmitted, readBlock}
-use Rattle.manual.specs.Image.{Image, imageMemory, startAt, stackAt, statusAt, imageState, imageReply, loadImage}
+use Rattle.manual.specs.Image.{Image, startAt, stackAt, statusAt, imageState, imageReply, loadImage}
 use Rattle.instructions.specs.Perform.{statusPushed, act, perform}
 use Rattle.instructions.specs.Step.{execute, step}
 use Rattle.instructions.specs.Run.{run}
@@ -435,9 +435,7 @@ module _ (b : List ℕ) (all : Bytes b) where
   image-typed x =
       let a : Typed (withAddress 7 (valueAt b stackAt 4) fresh) = address-typed fresh fresh-typed _ (value-lt b stackAt 4 all) in
       let t : Typed (withPc (valueAt b startAt 4) (withAddress 7 (valueAt b stackAt 4) fresh)) = pc-typed _ a _ (value-lt b startAt 4 all) in
-      either (λ (i : Image). Typed (i .cpu)) (eqb (length x) imageMemory) _ _
-      (either (λ (i : Image). Typed (i .cpu)) (isDone (imageReply b)) _ _ (sr-typed _ t _ (value-lt b statusAt 2 all)) fresh-typed)
-      fresh-typed
+      either (λ (i : Image). Typed (i .cpu)) (isDone (imageReply b x)) _ _ (sr-typed _ t _ (value-lt b statusAt 2 all)) fresh-typed
 
 pub keeps-typed : KeepsTyped
 keeps-typed = record {

@@ -21,30 +21,32 @@ use Rattle.memory.specs.MemoryLaws.{value-one}
 no {ℓ} : {A : Type ℓ} → false ≡ true → A
 no e = absurd (let z : _≡_ {A = ℕ} 0 1 = cc in omega arith)
 
-passed : (a b c d e g : Bool)
-    → isDone (cond a WrongLength (cond b (cond (c && (d && e)) (cond g Done NotAdmitted) WrongLength) WrongVersion)) ≡ true
-    → (c ≡ true) × (d ≡ true) × (e ≡ true)
-passed true b c d e g h = no h
-passed false false c d e g h = no h
-passed false true false d e g h = no h
-passed false true true false e g h = no h
-passed false true true true false g h = no h
-passed false true true true true g h = (refl, refl, refl)
+passed : (a b c d e s g : Bool)
+    → isDone (cond a WrongLength (cond b (cond (c && (d && (e && s))) (cond g Done NotAdmitted) WrongLength) WrongVersion)) ≡ true
+    → (c ≡ true) × (d ≡ true) × (e ≡ true) × (s ≡ true)
+passed true b c d e s g h = no h
+passed false false c d e s g h = no h
+passed false true false d e s g h = no h
+passed false true true false e s g h = no h
+passed false true true true false s g h = no h
+passed false true true true true false g h = no h
+passed false true true true true true g h = (refl, refl, refl, refl)
 
 -- what is left to decide once the first five bytes are read
-pub with-length : (f : List ℕ) (l : ℕ) → headBytes ≤ length f → getD f 0 0 ≡ 1 → l ≡ valueAt f lengthAt 4
-    → imageReply f ≡ cond (leb imageHead l && (leb l (imageMemory + imageHead) && eqb (length f) (headBytes + l))) (cond (admitted (imageState f)) Done NotAdmitted) WrongLength
+pub with-length : (f : List ℕ) (m : Storage) (l : ℕ) → headBytes ≤ length f → getD f 0 0 ≡ 1 → l ≡ valueAt f lengthAt 4
+    → imageReply f m ≡ cond (leb imageHead l && (leb l (imageMemory + imageHead) && (eqb (length f) (headBytes + l) && eqb (length m) imageMemory))) (cond (admitted (imageState f)) Done NotAdmitted) WrongLength
 unfolding imageReply
-with-length f l h v e = rw (le-ltb _ _ h, value-one, eq-eqb _ _ v, e)
+with-length f m l h v e = rw (le-ltb _ _ h, value-one, eq-eqb _ _ v, e)
 
--- a file that is accepted has its 19 first bytes, and no more after them than memory holds
-pub accepted : (f : List ℕ) → isDone (imageReply f) ≡ true → (programAt ≤ length f) × (length f ≤ programAt + imageMemory)
+-- a file that is accepted has its 19 first bytes, and no more after them than memory holds, and memory has 49,152 bytes
+pub accepted : (f : List ℕ) (m : Storage) → isDone (imageReply f m) ≡ true → (programAt ≤ length f) × (length f ≤ programAt + imageMemory) × (length m ≡ imageMemory)
 unfolding imageReply
-accepted f h =
+accepted f m h =
     let l : ℕ = valueAt f lengthAt 4 in
-    let p = passed (ltb (length f) headBytes) (eqb (valueAt f versionAt 1) 1) (leb imageHead l) (leb l (imageMemory + imageHead)) (eqb (length f) (headBytes + l)) (admitted (imageState f)) h in (
+    let p = passed (ltb (length f) headBytes) (eqb (valueAt f versionAt 1) 1) (leb imageHead l) (leb l (imageMemory + imageHead)) (eqb (length f) (headBytes + l)) (eqb (length m) imageMemory) (admitted (imageState f)) h in (
       omega (arith, leb-true imageHead l (p .0), eqb-true (length f) (headBytes + l) (p .2)),
       omega (arith, leb-true l (imageMemory + imageHead) (p .1), eqb-true (length f) (headBytes + l) (p .2)),
+      eqb-true (length m) imageMemory (p .3),
     )
 
 -- ---- zeros after a list are what `getD` reads there

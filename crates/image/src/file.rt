@@ -53,8 +53,8 @@ fn image_state(file: &[u8]) -> Cpu
     with_sr(with_pc(with_address(fresh(), 7, a7), pc), sr)
 }
 
-fn image_reply(file: &[u8]) -> Reply
-    ensures { λ r. ⌜ r ≡ imageReply (now (file .entry)) ⌝ }
+fn image_reply(file: &[u8], mem: &[u8]) -> Reply
+    ensures { λ r. ⌜ r ≡ imageReply (now (file .entry)) (now (mem .entry)) ⌝ }
 {
     if file.len() < HEAD_BYTES {
         return Reply::WrongLength;
@@ -70,6 +70,9 @@ fn image_reply(file: &[u8]) -> Reply
         return Reply::WrongLength;
     }
     if file.len() != HEAD_BYTES + l {
+        return Reply::WrongLength;
+    }
+    if mem.len() != IMAGE_MEMORY {
         return Reply::WrongLength;
     }
     if admitted(image_state(file)) {
@@ -115,10 +118,7 @@ fn not_loaded(reply: Reply) -> Loaded
 pub fn read_image(file: &[u8], mem: &mut [u8]) -> Loaded
     ensures { λ r. ⌜ image (r .reply) (r .budget) (r .cpu) (now (mem .exit)) ≡ loadImage (now (file .entry)) (now (mem .entry)) ⌝ }
 {
-    if mem.len() != IMAGE_MEMORY {
-        return not_loaded(Reply::WrongLength);
-    }
-    let reply = image_reply(file);
+    let reply = image_reply(file, &*mem);
     if !is_done(reply) {
         return not_loaded(reply);
     }

@@ -35,13 +35,14 @@ imageHead = 14
 unfoldable pub imageState : List ℕ → Cpu
 imageState f = withSr (valueAt f statusAt 2) (withPc (valueAt f startAt 4) (withAddress 7 (valueAt f stackAt 4) fresh))
 
--- the reply to a file: 9 under five bytes, 8, 9 where the length is none or does not match, 2
-unfoldable pub imageReply : List ℕ → Reply
-imageReply f =
+-- the reply to a file, and to the storage that it is read into: 9 under five bytes, 8, 9 where the length is none, or does not match
+-- the file, or storage has not 49,152 bytes, 2
+unfoldable pub imageReply : List ℕ → Storage → Reply
+imageReply f b =
     let l : ℕ = valueAt f lengthAt 4 in
     cond (ltb (length f) headBytes) WrongLength
     (cond (eqb (valueAt f versionAt 1) 1)
-    (cond (leb imageHead l && (leb l (imageMemory + imageHead) && eqb (length f) (headBytes + l)))
+    (cond (leb imageHead l && (leb l (imageMemory + imageHead) && (eqb (length f) (headBytes + l) && eqb (length b) imageMemory)))
     (cond (admitted (imageState f)) Done NotAdmitted)
     WrongLength)
     WrongVersion)
@@ -67,13 +68,11 @@ image n budget s b = record { reply = n; budget = budget; cpu = s; storage = b }
 abbrev pub notLoaded : Reply → Storage → Image
 notLoaded n b = image n 0 fresh b
 
--- storage of 49,152 bytes takes the file, whatever is in it; any other is refused with 9, whatever the file
+-- a file that is accepted goes into storage, whatever was there
 unfoldable pub loadImage : List ℕ → Storage → Image
 loadImage f b =
-    let n : Reply = imageReply f in
-    cond (eqb (length b) imageMemory)
-    (cond (isDone n) (image n (imageBudget f) (imageState f) (imageBytes f)) (notLoaded n b))
-    (notLoaded WrongLength b)
+    let n : Reply = imageReply f b in
+    cond (isDone n) (image n (imageBudget f) (imageState f) (imageBytes f)) (notLoaded n b)
 
 -- ---- the text, as bytes
 

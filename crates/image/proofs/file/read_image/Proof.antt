@@ -1,7 +1,8 @@
 -- `image::file::read_image` meets its contract: a file that is accepted has its bytes, and memory has room for them. Assumes nothing.
 use Prim.Native.Nat.{_+_, _≤_}
+use mathlib.Core.Path.{_≡_}
 use borrow.Author.Needs.{needs}
-use borrow.Author.Tests.{not-true, not-false, eq-eqb, ne-eqb}
+use borrow.Author.Tests.{not-true, not-false}
 use denote.Ref.{now}
 use lib.ListN.{length}
 use Rattle.manual.specs.Image.{imageMemory, programAt, loadImage}
@@ -9,34 +10,30 @@ use Rattle.image.proofs.FileLaws.{accepted}
 use Rattle.image.proofs.file.read_image.Statement.{statement}
 use Rattle.image.proofs.file.read_image.Tie as tie
 
-taken : (c : tie.Else2) → let f = now (c .before .before .before .before .before .before .args .file) in (programAt ≤ length f) × (length f ≤ programAt + imageMemory)
+taken : (c : tie.Else1)
+    → let a = c .before .before .before .before .before .before .args in
+    (programAt ≤ length (now (a .file))) × (length (now (a .file)) ≤ programAt + imageMemory) × (length (now (a .mem)) ≡ imageMemory)
 taken c =
-    accepted (now (c .before .before .before .before .before .before .args .file))
-    (rw (← c .before .before .image-reply .ensures, ← c .before .is-done .ensures) (not-false (c .before .is-done .result) (c .if2 .left)))
+    let a = c .before .before .before .before .before .before .args in
+    accepted (now (a .file)) (now (a .mem))
+    (rw (← c .before .before .image-reply .ensures, ← c .before .is-done .ensures) (not-false (c .before .is-done .result) (c .if1 .left)))
 
 returns : tie.Need-returns
 unfolding loadImage
 returns c =
     let n = c .not-loaded .ensures in
-    rw (ne-eqb _ _ (c .before .if1 .taken), n .0, n .1, n .2)
+    let i = c .before .before .before in
+    rw (← i .image-reply .ensures, ← c .before .before .is-done .ensures, not-true (c .before .before .is-done .result) (c .before .if1 .taken), n .0, n .1, n .2)
 
 returns-2 : tie.Need-returns-2
 unfolding loadImage
 returns-2 c =
-    let n = c .not-loaded2 .ensures in
-    let i = c .before .before .before in
-    rw (eq-eqb _ _ (i .before .if1 .left), ← i .image-reply .ensures, ← c .before .before .is-done .ensures, not-true (c .before .before .is-done .result) (c .before .if2 .taken), n .0, n .1, n .2)
-
-returns-3 : tie.Need-returns-3
-unfolding loadImage
-returns-3 c =
     let l = c .before .before .before .before .before in
     let i = l .before .before .before in
     rw (
-      eq-eqb _ _ (i .before .if1 .left),
       ← i .image-reply .ensures,
       ← l .before .before .is-done .ensures,
-      not-false (l .before .before .is-done .result) (l .before .if2 .left),
+      not-false (l .before .before .is-done .result) (l .before .if1 .left),
       ← l .long-at .ensures,
       ← c .before .before .before .before .image-state .ensures,
       ← c .before .before .fill .ensures,
@@ -47,13 +44,12 @@ read-image-spec =
     tie.close
     (tie.spec
     (λ c κs. search needs)
+    (λ c κs. search needs)
+    (λ c κs. search needs)
+    (λ c. search needs)
     returns
     (λ c κs. search needs)
-    (λ c κs. search needs)
-    (λ c κs. search needs)
-    returns-2
-    (λ c κs. search needs)
     (λ c κs. taken (c .before) .0)
-    (λ c κs. (taken (c .before .before .before) .0, taken (c .before .before .before) .1, search needs))
+    (λ c κs. let t = taken (c .before .before .before) in (t .0, t .1, t .2))
     (λ c. search needs)
-    returns-3)
+    returns-2)
