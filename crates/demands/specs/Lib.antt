@@ -1,3 +1,4 @@
+-- What the customer asked for, as theorems about the definition. docs/DEMANDS.md sets each sentence beside the theorem that says it.
 pub mod Accesses
 pub mod Effects
 pub mod Steps
