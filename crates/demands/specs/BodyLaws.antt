@@ -53,9 +53,10 @@ use Rattle.instructions.specs.LineE as le
 use Rattle.instructions.specs.LineF as lf
 use Rattle.demands.specs.Accesses as acc
 use Rattle.demands.specs.Accesses.{Wanted, none, wordAt, longAt, words, named, extensionOf, operandAt, controlAt}
+use Rattle.demands.specs.FitLaws.{moved-long}
 use Rattle.demands.specs.Effects as eff
 use Rattle.demands.specs.Effects.{Effect, nothing, storesMany, loadsMany, enters, returns, illegalWord, privileged, zero-divide, violation, line-a, line-f, trapped}
-use Rattle.demands.specs.PartLaws.{quiet, Does, does-nothing, does-store, does-push, does-store-many, does-load-many, does-enter, does-return, accessAll, Made, illegal-does, privilege-does, move-fits, cond-made, either-made, either-quiet, load-made, missing, missing-found, unreached, reading-only, locate-made, put-made, locating-made, source-made, source-only, of-data, missing-immediate, control-missed, reaching-made, end, row, out, listed, all-made, put-to-made, destination-found, destination-made, updating-made}
+use Rattle.demands.specs.PartLaws.{quiet, Does, does-nothing, does-store, does-push, does-store-many, does-load-many, does-enter, does-return, accessAll, Made, illegal-does, privilege-does, cond-made, either-made, either-quiet, load-made, missing, missing-found, unreached, reading-only, locate-made, put-made, locating-made, source-made, source-only, of-data, missing-immediate, control-missed, reaching-made, end, row, out, listed, all-made, put-to-made, destination-found, destination-made, updating-made}
 
 -- the rows MOVEC_READ, MOVEC_WRITE and MAC, which have words that are not carried, by their places in their lines
 abbrev pub movecRead : ℕ
@@ -248,7 +249,7 @@ module _ (g : List ℕ) (at sr : ℕ) (m : Memory) (op : ℕ) where
   unfolding l4.moveToSr acting source
   to-sr =
       source-only at sr m g (plus at 2) op Word _ _
-      (either-made at sr m (supervisor sr) [] _ _ _ _ (does-nothing refl) (does-enter (violation (move-fits g (named op) Word))))
+      (either-made at sr m (supervisor sr) [] _ _ _ _ (does-nothing refl) (does-enter (violation (moved-long g (named op) Word))))
 
   to-ccr : Makes (from Word) nothing (l4.moveToCcr g at m op)
   unfolding l4.moveToCcr done
@@ -307,7 +308,7 @@ module _ (g : List ℕ) (at sr : ℕ) (m : Memory) (op : ℕ) where
       (load-made at sr m (plus at 2) Word (operandAt g m (plus at 4) op Long) _ _
       (source-only at sr m g (plus at 4) op Long _ _
       (either-made at sr m (eqb (eff.operandValue g at sr m op (plus at 4) Long) 0) [] _ nothing _ _
-      (does-enter (zero-divide (move-fits g (named op) Long) (plus-below _ _)))
+      (does-enter (zero-divide (moved-long g (named op) Long) (plus-below _ _)))
       (either-quiet at sr m (l4.divided _ (dataOf g (bits 14 12 _)) _ .fits) _ _ refl refl))))
 
   pub line4-made : (other n : ℕ) → ((firstRow 4 + placeIn (firstRow 4) n ≡ movecRead) ⊎ (firstRow 4 + placeIn (firstRow 4) n ≡ movecWrite))
@@ -591,7 +592,7 @@ module _ (g : List ℕ) (at sr : ℕ) (m : Memory) (op : ℕ) where
 
   unassigned-made : Makes (from Long) (enters (eff.operandMove g at sr m op Long) 10 at) (la.unassigned g at sr m op)
   unfolding la.unassigned source
-  unassigned-made = source-only at sr m g (plus at 2) op Long _ _ (does-enter (line-a (move-fits g (named op) Long)))
+  unassigned-made = source-only at sr m g (plus at 2) op Long _ _ (does-enter (line-a (moved-long g (named op) Long)))
 
   pub lineA-made : (e : Emac) (n : ℕ) → (firstRow 0xA + placeIn (firstRow 0xA) n ≡ macRow) ⊎ Makes (acc.readsA g at m op (e .mask) n) (eff.effectsA g at sr m op n) (la.lineA n g at sr e m op)
   unfolding acc.readsA eff.effectsA la.lineA la.moveMacsrToCcr la.moveAccToAcc la.moveToGeneral done acting

@@ -97,7 +97,7 @@ module _ (g : List ℕ) (all : Longs g) (at : ℕ) (here : IsLong at) (sr : ℕ)
 
     moved-long : IsLong (from .moved .value)
     unfolding source
-    moved-long = fit.moved-long g all (operandOf op) z
+    moved-long = fit.moved-long g (operandOf op) z
 
     source-to-data : (codes r v : ℕ) → IsLong v → FitsLong (done (from .next) codes (from .moved) (writeData r v))
     source-to-data codes r v h = data-fits (from .next) codes (from .moved) r v next-long moved-long h
@@ -114,7 +114,7 @@ module _ (g : List ℕ) (all : Longs g) (at : ℕ) (here : IsLong at) (sr : ℕ)
 
     to-alone : (codes : ℕ) → FitsLong (done (to .next) codes (to .moved) noWrite)
     unfolding destinationOf
-    to-alone codes = done-fits (to .next) codes (to .moved) noWrite (plus-below pc _) (fit.moved-long g all (operandOf op) z) no-write-long
+    to-alone codes = done-fits (to .next) codes (to .moved) noWrite (plus-below pc _) (fit.moved-long g (operandOf op) z) no-write-long
 
     put-to-fits : (codes v : ℕ) → IsLong v → FitsLong (putTo g codes to z v)
     unfolding putTo
@@ -205,7 +205,7 @@ module _ (g : List ℕ) (all : Longs g) (at : ℕ) (here : IsLong at) (sr : ℕ)
       let longs : Longs (written moving g) = fit.written-longs moving g (moved-long (plus at 2) z) all in
       source-fits (plus at 2) z _
       (λ v h. fit.put-fits (written moving g) longs z v _ _ (fit.of-size z v h)
-      (done-fits _ _ moving _ (plus-below _ _) (moved-long (plus at 2) z) (fit.moved-long (written moving g) longs o z)))
+      (done-fits _ _ moving _ (plus-below _ _) (moved-long (plus at 2) z) (fit.moved-long (written moving g) o z)))
 
   move-address : (z : Size) → FitsLong (moves.movea z g at sr m op)
   unfolding moves.movea

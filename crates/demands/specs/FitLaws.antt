@@ -309,6 +309,23 @@ pub written-longs : (w : Write) (g : List ℕ) → IsLong (w .value) → Longs g
 unfolding written
 written-longs w g h all = either Longs (ltb (w .to) 16) (set g (w .to) (w .value)) g (set-below g (w .to) (w .value) (2 ^ 32) all h) all
 
+-- an operand's move is to an address, which wraps
+pub moved-long : (g : List ℕ) (o : Operand) (z : Size) → IsLong (moved g o z .value)
+unfolding moved writeAddress
+moved-long g (Data r) z = no-write-long
+moved-long g (Address r) z = no-write-long
+moved-long g (Indirect r) z = no-write-long
+moved-long g (PostIncrement r) z = plus-below _ _
+moved-long g (PreDecrement r) z = minus-below _ _
+moved-long g (Displaced r) z = no-write-long
+moved-long g (Indexed r) z = no-write-long
+moved-long g AbsoluteWord z = no-write-long
+moved-long g AbsoluteLong z = no-write-long
+moved-long g PcDisplaced z = no-write-long
+moved-long g PcIndexed z = no-write-long
+moved-long g Immediate z = no-write-long
+moved-long g Zero z = no-write-long
+
 module _ (g : List ℕ) (all : Longs g) where
   pub data-long : (r : ℕ) → IsLong (dataOf g r)
   unfolding dataOf
@@ -321,22 +338,6 @@ module _ (g : List ℕ) (all : Longs g) where
   pub general-long : (n : ℕ) → IsLong (general g n)
   unfolding general
   general-long n = all (n % 16)
-
-  pub moved-long : (o : Operand) (z : Size) → IsLong (moved g o z .value)
-  unfolding moved writeAddress
-  moved-long (Data r) z = no-write-long
-  moved-long (Address r) z = no-write-long
-  moved-long (Indirect r) z = no-write-long
-  moved-long (PostIncrement r) z = plus-below _ _
-  moved-long (PreDecrement r) z = minus-below _ _
-  moved-long (Displaced r) z = no-write-long
-  moved-long (Indexed r) z = no-write-long
-  moved-long AbsoluteWord z = no-write-long
-  moved-long AbsoluteLong z = no-write-long
-  moved-long PcDisplaced z = no-write-long
-  moved-long PcIndexed z = no-write-long
-  moved-long Immediate z = no-write-long
-  moved-long Zero z = no-write-long
 
   -- a long goes to a place
   pub put-fits : (z : Size) (v : ℕ) (place : Place) (c : Change) → IsLong v → FitsLong c → FitsLong (put g z v place c)

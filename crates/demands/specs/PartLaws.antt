@@ -1,6 +1,6 @@
 -- Which accesses the parts of an instruction make, and what they do then: at the first fault of the accesses an instruction is refused,
 -- and where there is none it has its effect. Assumes nothing.
-use Prim.Native.Nat.{ℕ, zero, suc, _+_, _/_, _%_, _^_, _<_}
+use Prim.Native.Nat.{ℕ, zero, suc, _+_, _/_, _%_}
 use mathlib.Core.Path.{_≡_, refl, sym, _∙_}
 use mathlib.Core.Bool.{Bool, true, false, cond}
 use mathlib.Core.List.{List, [], _∷_, _++_}
@@ -29,14 +29,14 @@ use Rattle.manual.specs.declared.Operand.the-variants.{Data, Address, Indirect,
 use Rattle.manual.specs.declared.Action.{Action}
 use Rattle.manual.specs.declared.Action.the-variants.{Nothing, Store, StoreMany, LoadMany, Enter, Return, Status, Stop, PushStatus, Halt, SetOther, Accumulate, SetAcc, SetExt, SetMacsr, SetMask, CopyAcc, ClearAcc, Refuse}
 use Rattle.manual.specs.declared.Change.{Change}
-use Rattle.manual.specs.Word.{bytes, plus, minus}
+use Rattle.manual.specs.Word.{bytes}
 use Rattle.manual.specs.Memory.{Memory, storageOf, access, taken, firstFault, found, load, numberIn, numberAt}
 use Rattle.manual.specs.Address.{operand, extension, immediate, locate, moved, fetch, value, source, reached, control, _then_, destination, destinationOf}
 use Rattle.manual.specs.Reply.{numberOf, faultReply}
 use Rattle.manual.specs.Change.{done, store, acting, enterAfter, enter, illegal, privilege, refused, reading, reaching, locating, put, putTo, updating, Result}
 use Rattle.demands.specs.AccessLaws.{here-or-not, taken-or-not}
 use Rattle.demands.specs.Accesses.{Wanted, wanted, Inside, words, named, own, extensionOf, operandAt, reachedBy, controlAt, SomeOutside, this, another}
-use Rattle.manual.specs.Registers.{noWrite, writeAddress}
+use Rattle.manual.specs.Registers.{noWrite}
 use Rattle.demands.specs.Effects.{Effect, nothing, stores, pushesStatus, storesMany, loadsMany, enters, returns, toPlace, illegalWord, atAddress, operandValue, updates, Vector, illegal-word, violation}
 
 -- an action that neither stores, reads memory, enters, returns nor refuses
@@ -141,23 +141,6 @@ illegal-does at sr = does-enter illegal-word
 pub privilege-does : (at sr : ℕ) → Does at sr (enters noWrite 8 at) (privilege at sr)
 unfolding privilege enter noWrite
 privilege-does at sr = does-enter (violation {w = noWrite} (omega arith))
-
--- an operand's move is to an address, which wraps at 2 ^ 32
-pub move-fits : (g : List ℕ) (o : Operand) (z : Size) → moved g o z .value < 2 ^ 32
-unfolding moved noWrite writeAddress plus minus
-move-fits g (Data r) z = omega arith
-move-fits g (Address r) z = omega arith
-move-fits g (Indirect r) z = omega arith
-move-fits g (PostIncrement r) z = omega arith
-move-fits g (PreDecrement r) z = omega arith
-move-fits g (Displaced r) z = omega arith
-move-fits g (Indexed r) z = omega arith
-move-fits g AbsoluteWord z = omega arith
-move-fits g AbsoluteLong z = omega arith
-move-fits g PcDisplaced z = omega arith
-move-fits g PcIndexed z = omega arith
-move-fits g Immediate z = omega arith
-move-fits g Zero z = omega arith
 
 -- the first fault of two
 abbrev pub both : Stored → Stored → Stored
