@@ -51,7 +51,7 @@ use Rattle.demands.specs.Exact.{Bytes, Ready}
 use Rattle.demands.specs.AccessLaws.{accessing-all, taking-all}
 use Rattle.demands.specs.Effects.{handed}
 use Rattle.demands.specs.EntryLaws.{swaps}
-use Rattle.demands.specs.ValueLaws.{set-below, store-bytes, status-word, registers-typed, pc-typed, sr-typed, stopped-typed, address-typed, other-typed, emac-typed, after-typed}
+use Rattle.demands.specs.ValueLaws.{set-below, store-bytes, status-word, all-typed, registers-typed, pc-typed, sr-typed, stopped-typed, address-typed, other-typed, emac-typed, after-typed}
 use Rattle.demands.specs.Steps.{Steps, none, one-more}
 use Rattle.demands.specs.Runs.{stored-kept, entered-kept, returned-kept, step-storage, runs}
 use Rattle.demands.specs.FitLaws.{either, IsLong, Longs, otherIn, FitsLong, GotBelow, load-below, written-longs}
@@ -169,33 +169,17 @@ length-written w g = either (λ x. length x ≡ length g) (ltb (w .to) 16) (set 
 -- the registers that an entry is made from: those after an operand's move
 pub handed-typed : (s : Cpu) (w : Write) (pc : ℕ) → Typed s → IsLong (w .value) → IsLong pc → Typed (handed w pc s)
 unfolding withParts
-handed-typed s w pc t v p = record {
-  sixteen = length-written w (s .r) ∙ t .sixteen;
-  registers = written-longs w (s .r) v (t .registers);
-  pc-long = p;
-  sr-word = t .sr-word;
-  other-long = t .other-long;
-  vbr-long = t .vbr-long;
-  cacr-long = t .cacr-long;
-  mask-long = t .mask-long;
-  four = t .four;
-}
+handed-typed s w pc t v p =
+    all-typed s t (written w (s .r)) pc _ _ _ _ (length-written w (s .r) ∙ t .sixteen) (written-longs w (s .r) v (t .registers)) p (t .sr-word) (t .other-long) (t .mask-long) (t .four)
 
 applied-typed : (s : Cpu) (c : Change) → Typed s → FitsLong c → Typed (applied s c)
 unfolding applied withParts coded
 applied-typed s c t f =
     let g : List ℕ = written (c .first) (s .r) in
-    record {
-      sixteen = length-written (c .second) g ∙ length-written (c .first) (s .r) ∙ t .sixteen;
-      registers = written-longs (c .second) g (f .second-fits) (written-longs (c .first) (s .r) (f .first-fits) (t .registers));
-      pc-long = f .pc-fits;
-      sr-word = omega (arith, t .sr-word);
-      other-long = t .other-long;
-      vbr-long = t .vbr-long;
-      cacr-long = t .cacr-long;
-      mask-long = t .mask-long;
-      four = t .four;
-    }
+    all-typed s t (written (c .second) g) (c .pc) _ _ _ _
+    (length-written (c .second) g ∙ length-written (c .first) (s .r) ∙ t .sixteen)
+    (written-longs (c .second) g (f .second-fits) (written-longs (c .first) (s .r) (f .first-fits) (t .registers)))
+    (f .pc-fits) (omega (arith, t .sr-word)) (t .other-long) (t .mask-long) (t .four)
 
 -- 16 registers, each of them a long
 record Loaded (g : List ℕ) : Type 0 where

@@ -8,7 +8,7 @@ use native.Mathlib.Omega.{arith}
 use lib.ListN.{length, getD, set, length-set}
 use Rattle.manual.specs.declared.Cpu.{Cpu}
 use Rattle.manual.specs.declared.Emac.{Emac}
-use Rattle.manual.specs.Registers.{addressOf, withRegisters, withAddress, withPc, withSr, withOther, withEmac, withStopped}
+use Rattle.manual.specs.Registers.{addressOf, withAll, withRegisters, withAddress, withPc, withSr, withOther, withEmac, withStopped}
 use Rattle.manual.specs.Memory.{Storage, storeAt}
 use Rattle.manual.specs.Admitted.{status}
 use Rattle.manual.specs.Exceptions.{handlerState}
@@ -37,93 +37,48 @@ status-word v = omega arith
 -- ---- a part replaced
 
 module _ (s : Cpu) (typed : Typed s) where
-  pub registers-typed : (g : List ℕ) → length g ≡ 16 → ((i : ℕ) → getD g i 0 < 2 ^ 32) → Typed (withRegisters g s)
-  unfolding withRegisters
-  registers-typed g n all = record {
+  -- all that an instruction may change
+  pub all-typed : (g : List ℕ) (at sr other : ℕ) (e : Emac) (b : Bool) → length g ≡ 16 → ((i : ℕ) → getD g i 0 < 2 ^ 32) → at < 2 ^ 32 → sr < 2 ^ 16
+      → other < 2 ^ 32 → e .mask < 2 ^ 32 → length (e .acc) ≡ 4 → Typed (withAll g at sr other e b s)
+  all-typed g at sr other e b n all p v o k four = record {
     sixteen = n;
     registers = all;
-    pc-long = typed .pc-long;
-    sr-word = typed .sr-word;
-    other-long = typed .other-long;
+    pc-long = p;
+    sr-word = v;
+    other-long = o;
     vbr-long = typed .vbr-long;
     cacr-long = typed .cacr-long;
-    mask-long = typed .mask-long;
-    four = typed .four;
+    mask-long = k;
+    four = four;
   }
 
-  pub pc-typed : (v : ℕ) → v < 2 ^ 32 → Typed (withPc v s)
-  unfolding withPc
-  pc-typed v h = record {
-    sixteen = typed .sixteen;
-    registers = typed .registers;
-    pc-long = h;
-    sr-word = typed .sr-word;
-    other-long = typed .other-long;
-    vbr-long = typed .vbr-long;
-    cacr-long = typed .cacr-long;
-    mask-long = typed .mask-long;
-    four = typed .four;
-  }
-
-  pub stopped-typed : (b : Bool) → Typed (withStopped b s)
-  unfolding withStopped
-  stopped-typed b = record {
-    sixteen = typed .sixteen;
-    registers = typed .registers;
-    pc-long = typed .pc-long;
-    sr-word = typed .sr-word;
-    other-long = typed .other-long;
-    vbr-long = typed .vbr-long;
-    cacr-long = typed .cacr-long;
-    mask-long = typed .mask-long;
-    four = typed .four;
-  }
+  pub registers-typed : (g : List ℕ) → length g ≡ 16 → ((i : ℕ) → getD g i 0 < 2 ^ 32) → Typed (withRegisters g s)
+  unfolding withRegisters
+  registers-typed g n all = all-typed g _ _ _ _ _ n all (typed .pc-long) (typed .sr-word) (typed .other-long) (typed .mask-long) (typed .four)
 
   pub address-typed : (v : ℕ) → v < 2 ^ 32 → Typed (withAddress 7 v s)
   unfolding withAddress withRegisters
   address-typed v h = registers-typed (set (s .r) 15 v) (length-set (s .r) 15 v ∙ typed .sixteen) (set-below (s .r) 15 v (2 ^ 32) (typed .registers) h)
 
+  pub pc-typed : (v : ℕ) → v < 2 ^ 32 → Typed (withPc v s)
+  unfolding withPc
+  pc-typed v h = all-typed _ v _ _ _ _ (typed .sixteen) (typed .registers) h (typed .sr-word) (typed .other-long) (typed .mask-long) (typed .four)
+
   pub sr-typed : (v : ℕ) → v < 2 ^ 16 → Typed (withSr v s)
   unfolding withSr
-  sr-typed v h = record {
-    sixteen = typed .sixteen;
-    registers = typed .registers;
-    pc-long = typed .pc-long;
-    sr-word = h;
-    other-long = typed .other-long;
-    vbr-long = typed .vbr-long;
-    cacr-long = typed .cacr-long;
-    mask-long = typed .mask-long;
-    four = typed .four;
-  }
+  sr-typed v h = all-typed _ _ v _ _ _ (typed .sixteen) (typed .registers) (typed .pc-long) h (typed .other-long) (typed .mask-long) (typed .four)
 
   pub other-typed : (v : ℕ) → v < 2 ^ 32 → Typed (withOther v s)
   unfolding withOther
-  other-typed v h = record {
-    sixteen = typed .sixteen;
-    registers = typed .registers;
-    pc-long = typed .pc-long;
-    sr-word = typed .sr-word;
-    other-long = h;
-    vbr-long = typed .vbr-long;
-    cacr-long = typed .cacr-long;
-    mask-long = typed .mask-long;
-    four = typed .four;
-  }
+  other-typed v h = all-typed _ _ _ v _ _ (typed .sixteen) (typed .registers) (typed .pc-long) (typed .sr-word) h (typed .mask-long) (typed .four)
 
   pub emac-typed : (e : Emac) → e .mask < 2 ^ 32 → length (e .acc) ≡ 4 → Typed (withEmac e s)
   unfolding withEmac
-  emac-typed e h n = record {
-    sixteen = typed .sixteen;
-    registers = typed .registers;
-    pc-long = typed .pc-long;
-    sr-word = typed .sr-word;
-    other-long = typed .other-long;
-    vbr-long = typed .vbr-long;
-    cacr-long = typed .cacr-long;
-    mask-long = h;
-    four = n;
-  }
+  emac-typed e h n = all-typed _ _ _ _ e _ (typed .sixteen) (typed .registers) (typed .pc-long) (typed .sr-word) (typed .other-long) h n
+
+  pub stopped-typed : (b : Bool) → Typed (withStopped b s)
+  unfolding withStopped
+  stopped-typed b = all-typed _ _ _ _ _ b (typed .sixteen) (typed .registers) (typed .pc-long) (typed .sr-word) (typed .other-long) (typed .mask-long) (typed .four)
 
   pub a7-long : addressOf (s .r) 7 < 2 ^ 32
   unfolding addressOf
