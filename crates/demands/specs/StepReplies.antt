@@ -109,7 +109,7 @@ module _ (s : Cpu) (l : Lent) where
   unfolding accesses
   no-fetch x i = rw i
 
-  -- where the reads' first fault is x and the effect's is y
+  -- the number n, where the reads' first fault is x and the effect's is y; where it is 0, the effect was had
   record Meets (n : ℕ) (x y : Stored) : Type 0 where
     number : n ≡ numberOr (both x y) 0
     effect-had : n ≡ 0 → Performs s m does (perform s changing m)

@@ -45,11 +45,6 @@ use Rattle.demands.specs.TypedLaws.{handed-typed}
 use Rattle.demands.specs.EffectLaws.{VectorFits, vector-fits, EntersBy, Performs}
 use Rattle.demands.specs.StepReplies.{of-effect}
 
--- the registers that an instruction hands to an entry after its own operand's move: a state as the types say, and admitted
-pub record HandedOn (handed : Cpu) : Type 0 where
-  pub typed : Typed handed
-  pub admits : admitted handed ≡ true
-
 -- the entries from the state s and what is lent, l: the registers and the program counter that the entry is handed, and what it answers.
 -- A step enters where its row does (Effects), and hands on the registers after its operand's move
 pub data Enters (s : Cpu) (l : Lent) : Cpu → ℕ → Outcome → Type 0 where
@@ -126,6 +121,11 @@ pub record EveryEntry : Type 0 where
 handed-admitted : (s : Cpu) (w : Write) (pc : ℕ) → admitted s ≡ true → admitted (handed w pc s) ≡ true
 unfolding admitted withParts
 handed-admitted s w pc h = h
+
+-- what is handed to an entry is a state as the types say, and admitted
+pub record HandedOn (handed : Cpu) : Type 0 where
+  pub typed : Typed handed
+  pub admits : admitted handed ≡ true
 
 -- every entry is `entered`, of the registers that it is handed, and every return is `returned`, of the state with some program counter
 
