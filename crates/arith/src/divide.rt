@@ -1,14 +1,17 @@
-// Quotients and remainders of longs.
+// Quotients and remainders of longs by longs and by words.
 use manual::Quotient;
+use manual::Size;
 use word::flags::codes;
 use word::word::minus;
+use word::word::plus;
+use word::word::sign_extended;
 ghost use mathlib.Core.Path.{_≡_};
 ghost use mathlib.Core.Bool.{true};
 ghost use Prim.Native.Nat.{_<_};
 ghost use lib.IntN.{natAbs};
 ghost use Rattle.manual.specs.Word.{signed};
 ghost use Rattle.manual.specs.declared.Size.the-variants.{Long};
-ghost use Rattle.manual.specs.Divide.{noQuotient, quotient as quotientOf, signedQuotient, overflowCodes};
+ghost use Rattle.manual.specs.Divide.{noQuotient, quotient as quotientOf, signedQuotient, wordQuotient, signedWordQuotient, overflowCodes};
 
 fn no_quotient() -> Quotient
     ensures { λ r. ⌜ r ≡ noQuotient ⌝ }
@@ -85,7 +88,34 @@ pub fn signed_quotient(a: u32, b: u32) -> Quotient
     by_magnitudes(a, b)
 }
 
-// The flags of an overflow of DIVS.L: the quotient is too large.
+// DIVU.W.
+pub fn word_quotient(a: u32, b: u32) -> Quotient
+    ensures { λ r. ⌜ r ≡ wordQuotient a b ⌝ }
+{
+    if b == 0 {
+        return no_quotient();
+    }
+    let q = a / b;
+    if q < 0x1_0000 {
+        return fitting(q, a % b);
+    }
+    no_quotient()
+}
+
+// DIVS.W: the quotient of longs, where it is a signed word.
+pub fn signed_word_quotient(a: u32, b: u32) -> Quotient
+    ensures { λ r. ⌜ r ≡ signedWordQuotient a b ⌝ }
+{
+    let long = signed_quotient(a, sign_extended(Size::Word, b));
+    if long.fits {
+        if plus(long.quotient, 0x8000) < 0x1_0000 {
+            return fitting(long.quotient % 0x1_0000, long.remainder % 0x1_0000);
+        }
+    }
+    no_quotient()
+}
+
+// The flags of an overflow: the quotient is too large.
 pub fn overflow_codes(sr: u16) -> u32
     ensures { λ r. ⌜ r ≡ overflowCodes sr ⌝ }
 {

@@ -259,8 +259,7 @@ mulLBy g sr w from v =
 unfoldable pub mulL : List ℕ → ℕ → ℕ → Memory → ℕ → Change
 mulL g at sr m op = withWordAndLong g at m op (mulLBy g sr)
 
--- DIVS.L, DIVU.L <ea>y,Dx: Dx / source → Dx. REMS.L, REMU.L <ea>y,Dw:Dx, where Dw is another: the remainder → Dw.
--- N, Z of the quotient; V set if it does not fit, and then no register changes; C cleared; X not affected
+-- DIVS.L, DIVU.L <ea>y,Dx: Dx / source → Dx. REMS.L, REMU.L <ea>y,Dw:Dx, where Dw is another: the remainder → Dw
 unfoldable pub divided : ℕ → ℕ → ℕ → Quotient
 divided w d v = cond (bitOf 11 w) (signedQuotient d v) (quotient d v)
 
@@ -272,13 +271,19 @@ quotientTo w q = cond (eqb (bits 14 12 w) (register w)) (writeData (register w) 
 abbrev pub zeroDivide : ℕ → Source → Change
 zeroDivide sr from = enterAfter (from .moved) sr 5 (from .next)
 
+-- what every divide leaves, v being its source and z the quotient's size: vector 5 where v is 0, else N, Z of the quotient and a
+-- register; V set if the quotient does not fit, and then no register changes; C cleared; X not affected
+abbrev pub dividing : Size → ℕ → Source → ℕ → Quotient → Write → Change
+dividing z sr from v q to =
+    cond (eqb v 0) (zeroDivide sr from)
+    (cond (q .fits)
+    (done (from .next) (moveCodes z (q .quotient) sr) (from .moved) to)
+    (done (from .next) (overflowCodes sr) (from .moved) noWrite))
+
 abbrev pub divLBy : List ℕ → ℕ → ℕ → Source → ℕ → Change
 divLBy g sr w from v =
     let q : Quotient = divided w (dataOf g (bits 14 12 w)) v in
-    cond (eqb v 0) (zeroDivide sr from)
-    (cond (q .fits)
-    (done (from .next) (moveCodes Long (q .quotient) sr) (from .moved) (quotientTo w q))
-    (done (from .next) (overflowCodes sr) (from .moved) noWrite))
+    dividing Long sr from v q (quotientTo w q)
 
 unfoldable pub divL : List ℕ → ℕ → ℕ → Memory → ℕ → Change
 divL g at sr m op = withWordAndLong g at m op (divLBy g sr)

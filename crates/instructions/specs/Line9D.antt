@@ -52,16 +52,16 @@ addx add g at sr op =
 unfoldable pub sums : ℕ → Bool → ℕ → List ℕ → ℕ → ℕ → Memory → ℕ → Change
 sums first add row g at sr m op =
     byRow first row at sr
-    (addx add g at sr op ∷  -- 76 SUBX_B 9100/F1F8, 107 ADDX_B D100/F1F8
-    addx add g at sr op ∷  -- 77 SUBX_W 9140/F1F8, 108 ADDX_W D140/F1F8
-    addx add g at sr op ∷  -- 78 SUBX_L 9180/F1F8, 109 ADDX_L D180/F1F8
-    illegal at sr ∷  -- 79 SUB_ILL_B 9108/F1F8, 110 ADD_ILL_B D108/F1F8
-    illegal at sr ∷  -- 80 SUB_ILL_W 9148/F1F8, 111 ADD_ILL_W D148/F1F8
-    illegal at sr ∷  -- 81 SUB_ILL_L 9188/F1F8, 112 ADD_ILL_L D188/F1F8
-    adda add Word g at sr m op ∷  -- 82 SUBA_W 90C0/F1C0, 113 ADDA_W D0C0/F1C0
-    adda add Long g at sr m op ∷  -- 83 SUBA_L 91C0/F1C0, 114 ADDA_L D1C0/F1C0
-    addToData add g at m op ∷  -- 84 SUB_DN 9000/F100, 115 ADD_DN D000/F100
-    addToMemory add g at m op ∷  -- 85 SUB_MEM 9100/F100, 116 ADD_MEM D100/F100
+    (addx add g at sr op ∷  -- 79 SUBX_B 9100/F1F8, 110 ADDX_B D100/F1F8
+    addx add g at sr op ∷  -- 80 SUBX_W 9140/F1F8, 111 ADDX_W D140/F1F8
+    addx add g at sr op ∷  -- 81 SUBX_L 9180/F1F8, 112 ADDX_L D180/F1F8
+    illegal at sr ∷  -- 82 SUB_ILL_B 9108/F1F8, 113 ADD_ILL_B D108/F1F8
+    illegal at sr ∷  -- 83 SUB_ILL_W 9148/F1F8, 114 ADD_ILL_W D148/F1F8
+    illegal at sr ∷  -- 84 SUB_ILL_L 9188/F1F8, 115 ADD_ILL_L D188/F1F8
+    adda add Word g at sr m op ∷  -- 85 SUBA_W 90C0/F1C0, 116 ADDA_W D0C0/F1C0
+    adda add Long g at sr m op ∷  -- 86 SUBA_L 91C0/F1C0, 117 ADDA_L D1C0/F1C0
+    addToData add g at m op ∷  -- 87 SUB_DN 9000/F100, 118 ADD_DN D000/F100
+    addToMemory add g at m op ∷  -- 88 SUB_MEM 9100/F100, 119 ADD_MEM D100/F100
     [])
 
 abbrev pub line9 : ℕ → List ℕ → ℕ → ℕ → List ℕ → ℕ → Change

@@ -124,17 +124,17 @@ mac g at sr mask m op =
 unfoldable pub lineA : ℕ → List ℕ → ℕ → ℕ → Emac → Memory → ℕ → Change
 lineA row g at sr e m op =
     byRow (firstRow 0xA) row at sr
-    (moveMacsrToCcr at (e .macsr) ∷  -- 86 MACSR_CCR A9C0/FFFF
-    moveAccToAcc at sr op ∷  -- 87 COPY_ACC A110/F9FC
-    moveToGeneral at sr op (e .macsr) ∷  -- 88 READ_MACSR A980/FFF0
-    moveToGeneral at sr op (e .mask) ∷  -- 89 READ_MASK AD80/FFF0
-    moveToGeneral at sr op (readExt (fractional (e .macsr)) e (extField op)) ∷  -- 90 READ_ACCEXT AB80/FBF0
-    moveToEmac Macsr g at sr m op ∷  -- 91 WRITE_MACSR A900/FFC0
-    moveToEmac Mask g at sr m op ∷  -- 92 WRITE_MASK AD00/FFC0
-    moveFromAcc at sr e op ∷  -- 93 READ_ACC A180/F9B0
-    moveToEmac Ext g at sr m op ∷  -- 94 WRITE_ACCEXT AB00/FBC0
-    moveToEmac Acc g at sr m op ∷  -- 95 WRITE_ACC A100/F9C0
-    mov3q g at sr m op ∷  -- 96 MOV3Q A140/F1C0
-    mac g at sr (e .mask) m op ∷  -- 97 MAC A000/F100
-    unassigned g at sr m op ∷  -- 98 LINEA A100/F100
+    (moveMacsrToCcr at (e .macsr) ∷  -- 89 MACSR_CCR A9C0/FFFF
+    moveAccToAcc at sr op ∷  -- 90 COPY_ACC A110/F9FC
+    moveToGeneral at sr op (e .macsr) ∷  -- 91 READ_MACSR A980/FFF0
+    moveToGeneral at sr op (e .mask) ∷  -- 92 READ_MASK AD80/FFF0
+    moveToGeneral at sr op (readExt (fractional (e .macsr)) e (extField op)) ∷  -- 93 READ_ACCEXT AB80/FBF0
+    moveToEmac Macsr g at sr m op ∷  -- 94 WRITE_MACSR A900/FFC0
+    moveToEmac Mask g at sr m op ∷  -- 95 WRITE_MASK AD00/FFC0
+    moveFromAcc at sr e op ∷  -- 96 READ_ACC A180/F9B0
+    moveToEmac Ext g at sr m op ∷  -- 97 WRITE_ACCEXT AB00/FBC0
+    moveToEmac Acc g at sr m op ∷  -- 98 WRITE_ACC A100/F9C0
+    mov3q g at sr m op ∷  -- 99 MOV3Q A140/F1C0
+    mac g at sr (e .mask) m op ∷  -- 100 MAC A000/F100
+    unassigned g at sr m op ∷  -- 101 LINEA A100/F100
     [])

@@ -20,9 +20,9 @@ cmpa z g at sr m op =
     let r : Sum = subtracted Long (signExtended z v) (addressOf (written (from .moved) g) (upper op)) false in
     done (from .next) (compareCodes sr r) (from .moved) noWrite
 
--- AND, EOR Dy,<ea>x: Dy op destination → destination. N, Z of the result; V, C cleared; X not affected
+-- AND, OR, EOR Dy,<ea>x: Dy op destination → destination. N, Z of the result; V, C cleared; X not affected
 -- 24. To An: its low part is combined with all of Dy, and all 32 bits are stored. The manual: no such form
--- 25. AND to Dx takes this form too. The manual: no such form
+-- 25. AND and OR to Dx take this form too. The manual: no such form
 unfoldable pub logicToPlace : Logic → List ℕ → ℕ → ℕ → Memory → ℕ → Change
 logicToPlace l g at sr m op =
     let z : Size = anySize op in
@@ -35,8 +35,8 @@ logicToPlace l g at sr m op =
 unfoldable pub lineB : ℕ → List ℕ → ℕ → ℕ → Memory → ℕ → Change
 lineB row g at sr m op =
     byRow (firstRow 0xB) row at sr
-    (cmpa Word g at sr m op ∷  -- 99 CMPA_W B0C0/F1C0
-    cmpa Long g at sr m op ∷  -- 100 CMPA_L B1C0/F1C0
-    cmp g at sr m op ∷  -- 101 CMP B000/F100
-    logicToPlace Eor g at sr m op ∷  -- 102 EOR B100/F100
+    (cmpa Word g at sr m op ∷  -- 102 CMPA_W B0C0/F1C0
+    cmpa Long g at sr m op ∷  -- 103 CMPA_L B1C0/F1C0
+    cmp g at sr m op ∷  -- 104 CMP B000/F100
+    logicToPlace Eor g at sr m op ∷  -- 105 EOR B100/F100
     [])

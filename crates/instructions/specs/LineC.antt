@@ -1,4 +1,4 @@
--- Line C: AND, MULU.W and MULS.W.
+-- Line C: AND, MULU.W and MULS.W, and what OR shares with AND.
 use Prim.Native.Nat.{ℕ}
 use mathlib.Core.{Bool.Bool, Bool.true, Bool.false, Bool.cond, List.List, List.[], List._∷_}
 use Rattle.manual.specs.declared.{Size.Size, Size.the-variants.Word, Size.the-variants.Long, Change.Change, Logic.Logic, Logic.the-variants.And}
@@ -6,7 +6,7 @@ use Rattle.manual.specs.{Word.plus, Word.merged, Bits.logic, Multiply.wordProdu
 use Rattle.manual.specs.{Memory.Memory, Fields.upper}
 use Rattle.instructions.specs.{Rows.firstRow, Rows.byRow, LineB.logicToPlace}
 
--- AND <ea>y,Dx: source & Dx → Dx. N, Z of the result; V, C cleared; X not affected
+-- AND, OR <ea>y,Dx: source op Dx → Dx. N, Z of the result; V, C cleared; X not affected
 -- 45. From An too. The manual: no An
 unfoldable pub logicToData : Logic → List ℕ → ℕ → ℕ → Memory → ℕ → Change
 logicToData l g at sr m op =
@@ -31,8 +31,8 @@ mulW signs g at sr m op =
 unfoldable pub lineC : ℕ → List ℕ → ℕ → ℕ → Memory → ℕ → Change
 lineC row g at sr m op =
     byRow (firstRow 0xC) row at sr
-    (mulW false g at sr m op ∷  -- 103 MULU_W C0C0/F1C0
-    mulW true g at sr m op ∷  -- 104 MULS_W C1C0/F1C0
-    logicToData And g at sr m op ∷  -- 105 AND_DN C000/F100
-    logicToPlace And g at sr m op ∷  -- 106 AND_MEM C100/F100
+    (mulW false g at sr m op ∷  -- 106 MULU_W C0C0/F1C0
+    mulW true g at sr m op ∷  -- 107 MULS_W C1C0/F1C0
+    logicToData And g at sr m op ∷  -- 108 AND_DN C000/F100
+    logicToPlace And g at sr m op ∷  -- 109 AND_MEM C100/F100
     [])

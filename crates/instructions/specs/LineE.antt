@@ -27,7 +27,7 @@ shift signs g at sr op =
 unfoldable pub lineE : ℕ → List ℕ → ℕ → ℕ → ℕ → Change
 lineE row g at sr op =
     byRow (firstRow 0xE) row at sr
-    (shift true g at sr op ∷  -- 117 ASX E080/F0D8
-    shift false g at sr op ∷  -- 118 LSX E088/F0D8
-    illegal at sr ∷  -- 119 ILL_E E000/F000
+    (shift true g at sr op ∷  -- 120 ASX E080/F0D8
+    shift false g at sr op ∷  -- 121 LSX E088/F0D8
+    illegal at sr ∷  -- 122 ILL_E E000/F000
     [])

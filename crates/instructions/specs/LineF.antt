@@ -40,8 +40,8 @@ unassigned at sr = enter sr 11 at
 unfoldable pub lineF : ℕ → List ℕ → ℕ → ℕ → Memory → ℕ → Change
 lineF row g at sr m op =
     byRow (firstRow 0xF) row at sr
-    (wdebug g at sr m op ∷  -- 120 WDEBUG FBC0/FFC0
-    cacheLine at sr ∷  -- 121 CACHE F400/FF00
-    wddata g at sr m op ∷  -- 122 WDDATA FB00/FF00
-    unassigned at sr ∷  -- 123 LINEF F000/F000
+    (wdebug g at sr m op ∷  -- 123 WDEBUG FBC0/FFC0
+    cacheLine at sr ∷  -- 124 CACHE F400/FF00
+    wddata g at sr m op ∷  -- 125 WDDATA FB00/FF00
+    unassigned at sr ∷  -- 126 LINEF F000/F000
     [])

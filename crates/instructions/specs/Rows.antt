@@ -122,7 +122,10 @@ line7Rows =
 
 abbrev line8Rows : List Row
 line8Rows =
-    (row 0x8000 0xF000 ∷  -- LINE8
+    (row 0x80C0 0xF1C0 ∷  -- DIVU_W
+    row 0x81C0 0xF1C0 ∷  -- DIVS_W
+    row 0x8000 0xF100 ∷  -- OR_DN
+    row 0x8100 0xF100 ∷  -- OR_MEM
     [])
 
 abbrev line9Rows : List Row

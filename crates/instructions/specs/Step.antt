@@ -3,8 +3,8 @@ use Prim.Native.Nat.{ℕ, _/_}
 use mathlib.Core.{Bool.cond, List.List, List.[], List._∷_}
 use lib.{ListN.getD}
 use Rattle.manual.specs.declared.{Cpu.Cpu, Emac.Emac, Size.the-variants.Word, Reply.the-variants.Stopped, Change.Change}
-use Rattle.manual.specs.{Memory.Memory, Memory.load, Reply.Outcome, Reply.unchanged, Lent.Lent, Lent.memoryOf, Lent.checked, Change.reading, Change.notCarried, Change.illegal, Fields.line}
-use Rattle.instructions.specs.{Rows.value, Rows.rowOf, Line0.line0, Moves.line1, Moves.line2, Moves.line3, Line4.line4, Line5.line5, Line6.line6, Line7.line7, Line9D.line9, Line9D.lineD, LineA.lineA, LineB.lineB, LineC.lineC}
+use Rattle.manual.specs.{Memory.Memory, Memory.load, Reply.Outcome, Reply.unchanged, Lent.Lent, Lent.memoryOf, Lent.checked, Change.reading, Change.illegal, Fields.line}
+use Rattle.instructions.specs.{Rows.value, Rows.rowOf, Line0.line0, Moves.line1, Moves.line2, Moves.line3, Line4.line4, Line5.line5, Line6.line6, Line7.line7, Line8.line8, Line9D.line9, Line9D.lineD, LineA.lineA, LineB.lineB, LineC.lineC}
 use Rattle.instructions.specs.{LineE.lineE, LineF.lineF, Perform.perform}
 
 -- what the word op at `at` changes, taken for the instruction of a row of a line
@@ -19,7 +19,7 @@ inLine n row g at sr other e m op =
     line5 row g at sr m op ∷  -- 5 ADDQ, SUBQ, Scc, TPF
     line6 row g at sr m op ∷  -- 6 Bcc, BSR, BRA
     line7 row g at sr m op ∷  -- 7 MOVEQ, MVS, MVZ
-    notCarried ∷  -- 8 OR, DIV.W: LINE8 8000/F000
+    line8 row g at sr m op ∷  -- 8 OR, DIV.W
     line9 row g at sr m op ∷  -- 9 SUB, SUBX
     lineA row g at sr e m op ∷  -- A the EMAC, MOV3Q
     lineB row g at sr m op ∷  -- B CMP, EOR

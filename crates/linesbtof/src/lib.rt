@@ -1,3 +1,4 @@
+pub mod line8;
 pub mod lineb;
 pub mod linec;
 pub mod lined;

@@ -24,7 +24,14 @@ ghost use Rattle.instructions.specs.LineC.{logicToData, product as productOf, m
 ghost use Rattle.manual.specs.Memory.{mapped};
 ghost use Rattle.manual.specs.Differences.{anySize};
 
-fn logic_to_data(l: Logic, g: &[u32; 16], at: u32, sr: u16, mem: &[u8], op: u32) -> Change
+pub(crate) fn logic_to_data(
+    l: Logic,
+    g: &[u32; 16],
+    at: u32,
+    sr: u16,
+    mem: &[u8],
+    op: u32,
+) -> Change
     ensures { λ e. ⌜ e ≡ logicToData l (now (g .entry)) at sr (mapped (now (mem .entry))) op ⌝ }
 {
     let z = size_of(op / 64);

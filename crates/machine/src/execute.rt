@@ -1,11 +1,11 @@
 // What a word changes, taken for the instruction of a row.
-use address::changes::not_carried;
 use lines0to3::line0;
 use lines0to3::lines1to3;
 use lines5to9::line5;
 use lines5to9::line6;
 use lines5to9::line7;
 use lines5to9::line9;
+use linesbtof::line8;
 use linesbtof::lineb;
 use linesbtof::linec;
 use linesbtof::lined;
@@ -42,7 +42,7 @@ pub fn instruction(
         rows::TPF_W..=rows::ADDQ => line5::instruction(row, g, at, sr, mem, op),
         rows::BRA..=rows::BCC => line6::instruction(row, g, at, sr, mem, op),
         rows::MVS..=rows::MOVEQ => line7::instruction(row, g, at, sr, mem, op),
-        rows::LINE8 => not_carried(),
+        rows::DIVU_W..=rows::OR_MEM => line8::instruction(row, g, at, sr, mem, op),
         rows::SUBX_B..=rows::SUB_MEM => line9::instruction(row, g, at, sr, mem, op),
         rows::MACSR_CCR..=rows::LINEA => {
             linea::linea::instruction(row, g, at, sr, macsr, mask, acc, mem, op)

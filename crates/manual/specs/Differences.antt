@@ -51,6 +51,6 @@ byteOfAddress a = cut Byte a
 abbrev pub storeToAddress : ℕ → ℕ → Change → Change
 storeToAddress r v c = record { pc = c .pc; ccr = c .ccr; first = c .first; second = writeAddress r v; action = Nothing }
 
--- 23. Bits 7 and 6 name the size of ADD, SUB, AND, EOR, ADDQ, SUBQ, ADDX and SUBX. The manual: long only.
+-- 23. Bits 7 and 6 name the size of ADD, SUB, AND, OR, EOR, ADDQ, SUBQ, ADDX and SUBX. The manual: long only.
 abbrev pub anySize : ℕ → Size
 anySize op = sizeField op

@@ -160,105 +160,111 @@ pub const MVZ: u8 = 73;
 
 pub const MOVEQ: u8 = 74;
 
-pub const LINE8: u8 = 75;
+pub const DIVU_W: u8 = 75;
 
-pub const SUBX_B: u8 = 76;
+pub const DIVS_W: u8 = 76;
 
-pub const SUBX_W: u8 = 77;
+pub const OR_DN: u8 = 77;
 
-pub const SUBX_L: u8 = 78;
+pub const OR_MEM: u8 = 78;
 
-pub const SUB_ILL_B: u8 = 79;
+pub const SUBX_B: u8 = 79;
 
-pub const SUB_ILL_W: u8 = 80;
+pub const SUBX_W: u8 = 80;
 
-pub const SUB_ILL_L: u8 = 81;
+pub const SUBX_L: u8 = 81;
 
-pub const SUBA_W: u8 = 82;
+pub const SUB_ILL_B: u8 = 82;
 
-pub const SUBA_L: u8 = 83;
+pub const SUB_ILL_W: u8 = 83;
 
-pub const SUB_DN: u8 = 84;
+pub const SUB_ILL_L: u8 = 84;
 
-pub const SUB_MEM: u8 = 85;
+pub const SUBA_W: u8 = 85;
 
-pub const MACSR_CCR: u8 = 86;
+pub const SUBA_L: u8 = 86;
 
-pub const COPY_ACC: u8 = 87;
+pub const SUB_DN: u8 = 87;
 
-pub const READ_MACSR: u8 = 88;
+pub const SUB_MEM: u8 = 88;
 
-pub const READ_MASK: u8 = 89;
+pub const MACSR_CCR: u8 = 89;
 
-pub const READ_ACCEXT: u8 = 90;
+pub const COPY_ACC: u8 = 90;
 
-pub const WRITE_MACSR: u8 = 91;
+pub const READ_MACSR: u8 = 91;
 
-pub const WRITE_MASK: u8 = 92;
+pub const READ_MASK: u8 = 92;
 
-pub const READ_ACC: u8 = 93;
+pub const READ_ACCEXT: u8 = 93;
 
-pub const WRITE_ACCEXT: u8 = 94;
+pub const WRITE_MACSR: u8 = 94;
 
-pub const WRITE_ACC: u8 = 95;
+pub const WRITE_MASK: u8 = 95;
 
-pub const MOV3Q: u8 = 96;
+pub const READ_ACC: u8 = 96;
 
-pub const MAC: u8 = 97;
+pub const WRITE_ACCEXT: u8 = 97;
 
-pub const LINEA: u8 = 98;
+pub const WRITE_ACC: u8 = 98;
 
-pub const CMPA_W: u8 = 99;
+pub const MOV3Q: u8 = 99;
 
-pub const CMPA_L: u8 = 100;
+pub const MAC: u8 = 100;
 
-pub const CMP: u8 = 101;
+pub const LINEA: u8 = 101;
 
-pub const EOR: u8 = 102;
+pub const CMPA_W: u8 = 102;
 
-pub const MULU_W: u8 = 103;
+pub const CMPA_L: u8 = 103;
 
-pub const MULS_W: u8 = 104;
+pub const CMP: u8 = 104;
 
-pub const AND_DN: u8 = 105;
+pub const EOR: u8 = 105;
 
-pub const AND_MEM: u8 = 106;
+pub const MULU_W: u8 = 106;
 
-pub const ADDX_B: u8 = 107;
+pub const MULS_W: u8 = 107;
 
-pub const ADDX_W: u8 = 108;
+pub const AND_DN: u8 = 108;
 
-pub const ADDX_L: u8 = 109;
+pub const AND_MEM: u8 = 109;
 
-pub const ADD_ILL_B: u8 = 110;
+pub const ADDX_B: u8 = 110;
 
-pub const ADD_ILL_W: u8 = 111;
+pub const ADDX_W: u8 = 111;
 
-pub const ADD_ILL_L: u8 = 112;
+pub const ADDX_L: u8 = 112;
 
-pub const ADDA_W: u8 = 113;
+pub const ADD_ILL_B: u8 = 113;
 
-pub const ADDA_L: u8 = 114;
+pub const ADD_ILL_W: u8 = 114;
 
-pub const ADD_DN: u8 = 115;
+pub const ADD_ILL_L: u8 = 115;
 
-pub const ADD_MEM: u8 = 116;
+pub const ADDA_W: u8 = 116;
 
-pub const ASX: u8 = 117;
+pub const ADDA_L: u8 = 117;
 
-pub const LSX: u8 = 118;
+pub const ADD_DN: u8 = 118;
 
-pub const ILL_E: u8 = 119;
+pub const ADD_MEM: u8 = 119;
 
-pub const WDEBUG: u8 = 120;
+pub const ASX: u8 = 120;
 
-pub const CACHE: u8 = 121;
+pub const LSX: u8 = 121;
 
-pub const WDDATA: u8 = 122;
+pub const ILL_E: u8 = 122;
 
-pub const LINEF: u8 = 123;
+pub const WDEBUG: u8 = 123;
 
-pub const ROW_COUNT: u8 = 124;
+pub const CACHE: u8 = 124;
+
+pub const WDDATA: u8 = 125;
+
+pub const LINEF: u8 = 126;
+
+pub const ROW_COUNT: u8 = 127;
 
 // ---- the end of that part
 
@@ -487,7 +493,16 @@ fn line_8(w: u32) -> u8
     requires { ⌜ Within 8 0 w ⌝ }
     ensures { λ r. ⌜ r ≡ rowOf w ⌝ }
 {
-    LINE8
+    if w & 0xF1C0 == 0x80C0 {
+        return DIVU_W;
+    }
+    if w & 0xF1C0 == 0x81C0 {
+        return DIVS_W;
+    }
+    if w & 0xF100 == 0x8000 {
+        return OR_DN;
+    }
+    OR_MEM
 }
 
 fn line_9(w: u32) -> u8
