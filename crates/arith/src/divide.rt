@@ -109,10 +109,13 @@ pub fn signed_word_quotient(a: u32, b: u32) -> Quotient
     let long = signed_quotient(a, sign_extended(Size::Word, b));
     if long.fits {
         if plus(long.quotient, 0x8000) < 0x1_0000 {
-            return fitting(long.quotient % 0x1_0000, long.remainder % 0x1_0000);
+            fitting(long.quotient % 0x1_0000, long.remainder % 0x1_0000)
+        } else {
+            no_quotient()
         }
+    } else {
+        no_quotient()
     }
-    no_quotient()
 }
 
 // The flags of an overflow: the quotient is too large.
