@@ -25,7 +25,7 @@ ghost use mathlib.Core.Path.{_≡_};
 ghost use mathlib.Core.Bool.{cond};
 ghost use Prim.Native.Nat.{_+_, _*_, _/_, _%_, _<_};
 ghost use Rattle.manual.specs.Memory.{mapped};
-ghost use Rattle.instructions.specs.Line8.{wordDivided, remainderAndQuotient, divW, line8 as line8Of};
+ghost use Rattle.instructions.specs.Line8.{wordDivided, divW, line8 as line8Of};
 
 // The quotient of DIVS.W where `signs`, else of DIVU.W.
 fn word_divided(signs: bool, d: u32, v: u32) -> Quotient
@@ -36,13 +36,6 @@ fn word_divided(signs: bool, d: u32, v: u32) -> Quotient
     } else {
         word_quotient(d, v)
     }
-}
-
-// The long that a divide by a word leaves: the remainder above the quotient.
-fn remainder_and_quotient(q: Quotient) -> u32
-    ensures { λ r. ⌜ r ≡ remainderAndQuotient q ⌝ }
-{
-    q.remainder % 0x1_0000 * 0x1_0000 + q.quotient % 0x1_0000
 }
 
 fn div_w(signs: bool, g: &[u32; 16], at: u32, sr: u16, mem: &[u8], op: u32) -> Change
@@ -62,12 +55,8 @@ fn div_w(signs: bool, g: &[u32; 16], at: u32, sr: u16, mem: &[u8], op: u32) -> C
     let q = word_divided(signs, data(g, op / 512 % 8), v);
     if q.fits {
         let codes = move_codes(Size::Word, q.quotient, sr);
-        return done(
-            next,
-            codes,
-            first,
-            write_data(op / 512 % 8, remainder_and_quotient(q)),
-        );
+        let both = q.remainder % 0x1_0000 * 0x1_0000 + q.quotient % 0x1_0000;
+        return done(next, codes, first, write_data(op / 512 % 8, both));
     }
     let codes = overflow_codes(sr);
     done(next, codes, first, no_write())
