@@ -5,7 +5,7 @@
 --   2  state not admitted (AdmittedMeans says which are)
 --   3  state stopped (step; run with budget left)
 --   4  an access this call makes is not inside (those of a step are listed in Accesses and Effects)
---   5  line 8; 0x4E7A, 0x4E7B; EMAC word operand
+--   5  0x4E7A, 0x4E7B; EMAC word operand
 --   6  level above 7, or accumulator number above 3
 --   7  interrupt masked: level below 7 and at most the mask
 --   8  block or file: first byte not 1
@@ -81,7 +81,6 @@ pub record Meanings : Type 0 where
 
 -- a word op at `at` that is not carried
 pub data NotCarriedWord (m : Memory) (at op : ℕ) : Type 0 where
-  line-8 : op / 0x1000 ≡ 8 → NotCarriedWord m at op
   movec : (op ≡ 0x4E7A) ⊎ (op ≡ 0x4E7B) → NotCarriedWord m at op
   -- a MAC word, A000/F100, of a mode below 6, whose second word is inside and has bit 11 clear
   word-operand : bitAnd op 0xF100 ≡ 0xA000 → op / 8 % 8 ≤ 5 → Inside m (plus at 2) 2 → numberAt m (plus at 2) Word / 0x800 % 2 ≡ 0
