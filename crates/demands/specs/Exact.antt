@@ -183,6 +183,8 @@ pub record Reply5 : Type 0 where
       (numberOf (r .ran .reply) ≡ 5)
       ↔ (Ready s l
       × ((r .ran .count < budget) × ((r .ran .cpu .stopped ≡ false) × (Inside m pc 2 × NotCarriedWord m pc (numberAt m pc Word)))))
+  -- no word of line 8 is one of these
+  pub line-8-carried : (m : Memory) (at op : ℕ) → op / 0x1000 ≡ 8 → NotCarriedWord m at op → ⊥
 
 pub record Reply6 : Type 0 where
   pub exception-6 : (s : Cpu) (l : Lent) (vector pc level : ℕ) → (numbered (exception s l vector pc (To level)) ≡ 6) ↔ (Ready s l × (8 ≤ level))

@@ -175,6 +175,9 @@ module _ (op : ℕ) (small : op < 0x1_0000) where
   pub mac-fits : rowOf op ≡ macRow → bitAnd op 0xF100 ≡ 0xA000
   mac-fits e = fits-row macRow e
 
+  pub mac-in-line : bitAnd op 0xF100 ≡ 0xA000 → op / 0x1000 ≡ 10
+  mac-in-line f = sym (in-line op macRow small (lit< tt) f .0)
+
 -- no row that fits a word of the row MAC, A000/F100, has more fixed bits
 abbrev asMac : ℕ → Bool
 asMac q = elim (eqb (bitAnd (rowValue q) 0xF100) (bitAnd 0xA000 (rowMask q))) [ true ↦ leb (fixedBits q) (fixedBits macRow) | false ↦ true ]
@@ -306,7 +309,7 @@ module _ (g : List ℕ) (at sr other : ℕ) (e : Emac) (m : Memory) (op : ℕ) w
   movec-line small (inr h) = omega (arith, movec-write op small h)
 
   mac-line : op < 0x1_0000 → rowOf op ≡ macRow → op / 0x1000 % 16 ≡ 10
-  mac-line small h = omega (arith, in-line op macRow small (lit< tt) (mac-fits op small h) .0)
+  mac-line small h = omega (arith, mac-in-line op small (mac-fits op small h))
 
   pub excused-refused : op < 0x1_0000 → Excused at m op → its-change ≡ notCarried
   excused-refused small (inl h) = movec-at h (movec-line small h) .change-is

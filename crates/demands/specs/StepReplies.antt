@@ -36,7 +36,7 @@ use Rattle.demands.specs.EffectLaws.{Performs, performs}
 use Rattle.demands.specs.BodyLaws.{movecRead, movecWrite}
 use Rattle.demands.specs.AccessLaws.{word-lt, fault-number}
 use Rattle.demands.specs.FirstReplies.{first-1, first-2, first-of}
-use Rattle.demands.specs.InstructionLaws.{Excused, NotCarriedHere, instruction-made, excused-refused, movec-read, movec-write, mac-fits, mac-row}
+use Rattle.demands.specs.InstructionLaws.{Excused, NotCarriedHere, instruction-made, excused-refused, movec-read, movec-write, mac-fits, mac-in-line, mac-row}
 use Rattle.demands.specs.StepLaws.{doing, fetched, not-fetched, perform-refused, Stepped, stepped}
 use Rattle.demands.specs.ReplyLaws as laws
 use Rattle.demands.specs.Exact.{numbered, Bytes, TooLong, Usable, Ready, NotCarriedWord, movec, word-operand, OneOf}
@@ -63,6 +63,11 @@ kinds m at op small = (there, back)
     back (movec (inl h)) = inl (inl (read-row op h))
     back (movec (inr h)) = inl (inr (write-row op h))
     back (word-operand f mode i w) = inr (mac-row op small f, (mode, (i, w)))
+
+pub line-8-carried : (m : Memory) (at op : ℕ) → op / 0x1000 ≡ 8 → NotCarriedWord m at op → ⊥
+line-8-carried m at op h (movec (inl e)) = omega arith
+line-8-carried m at op h (movec (inr e)) = omega arith
+line-8-carried m at op h (word-operand f mode i w) = omega (arith, mac-in-line op (omega arith) f)
 
 -- ---- a step
 
