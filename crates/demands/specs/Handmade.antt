@@ -1,6 +1,6 @@
 -- The document's examples that were checked by hand, and line 8's, as one table with a single claim, by computation straight from the
--- definition of a step, of `exception` and of `rte`. Document: "Checked by hand", the examples marked *. Those of line 8 were computed
--- by hand from the manual. Assumes nothing.
+-- definition of a step, of `exception` and of `rte`. Document: "Checked by hand", the examples marked *. It has none of line 8:
+-- their answers were worked out by hand, N after an overflow and OR.B as docs/DIFFERENCES.md has them (33, 23). Assumes nothing.
 use Prim.Native.Nat.{ℕ, _+_, _/_, _%_, _^_}
 use mathlib.Core.Path.{_≡_, refl}
 use mathlib.Core.Bool.{false, cond}
@@ -38,7 +38,7 @@ use Rattle.instructions.specs.LineE as le
 use Rattle.instructions.specs.Perform.{perform}
 use Rattle.instructions.specs.Step.{instruction, execute, step}
 
--- an example: what the definition gives, and what the document or the manual says
+-- an example: what the definition gives, and what the document says, or was worked out by hand
 pub record Example : Type 0 where
   pub given : List ℕ
   pub said : List ℕ
