@@ -241,6 +241,16 @@ module _ (g : List ℕ) (at : ℕ) (m : Memory) (op : ℕ) where
       [])
       (placeIn (firstRow 7) row) none
 
+  unfoldable pub reads8 : ℕ → List Wanted
+  reads8 row =
+      getD
+      (source Word ∷  -- DIVU_W
+      source Word ∷  -- DIVS_W
+      source (anySize op) ∷  -- OR_DN
+      source (anySize op) ∷  -- OR_MEM
+      [])
+      (placeIn (firstRow 8) row) none
+
   -- lines 9 and D, from their first row on
   unfoldable pub reads9D : ℕ → ℕ → List Wanted
   reads9D first row =
@@ -321,7 +331,7 @@ module _ (g : List ℕ) (at : ℕ) (m : Memory) (op : ℕ) where
       [])
       (placeIn (firstRow 0xF) row) none
 
-  -- the line is the top four bits; a word of line 8 and a shift read nothing. mask is the EMAC's
+  -- the line is the top four bits; a shift reads nothing. mask is the EMAC's
   unfoldable pub reads : ℕ → List Wanted
   reads mask =
       let row : ℕ = rowOf op in
@@ -334,7 +344,7 @@ module _ (g : List ℕ) (at : ℕ) (m : Memory) (op : ℕ) where
       reads5 row ∷
       reads6 row ∷
       reads7 row ∷
-      none ∷
+      reads8 row ∷
       reads9D (firstRow 9) row ∷
       readsA mask row ∷
       readsB row ∷

@@ -25,12 +25,14 @@ use Rattle.manual.specs.declared.Operand.{Operand}
 use Rattle.manual.specs.declared.Operand.the-variants.{Immediate}
 use Rattle.manual.specs.declared.Action.the-variants.{Nothing, ClearAcc}
 use Rattle.manual.specs.declared.Sum.{Sum}
+use Rattle.manual.specs.declared.Write.{Write}
+use Rattle.manual.specs.declared.Quotient.{Quotient}
 use Rattle.manual.specs.declared.Change.{Change}
 use Rattle.manual.specs.Word.{plus, signExtended}
 use Rattle.manual.specs.Bits.{logic, bitOf, withBit, changedBit}
 use Rattle.manual.specs.Flags.{moveCodes, sumCodes, sumOrDifference}
 use Rattle.manual.specs.Fields.{bits, upper, upperMode, mode, register, sizeField, byteOrWord, bitOperator, lowByte, lowFour, accField, extField}
-use Rattle.manual.specs.Registers.{dataOf, addressOf, noWrite}
+use Rattle.manual.specs.Registers.{dataOf, addressOf, noWrite, writeData}
 use Rattle.word.specs.WordLaws.{plus-below}
 use Rattle.manual.specs.Memory.{Memory, storageOf, access, firstFault, found, load, numberAt}
 use Rattle.manual.specs.Address.{operand, extension, source, locate, value, control, destination, destinationOf}
@@ -45,6 +47,7 @@ use Rattle.instructions.specs.Line4 as l4
 use Rattle.instructions.specs.Line5 as l5
 use Rattle.instructions.specs.Line6 as l6
 use Rattle.instructions.specs.Line7 as l7
+use Rattle.instructions.specs.Line8 as l8
 use Rattle.instructions.specs.Line9D as l9
 use Rattle.instructions.specs.LineA as la
 use Rattle.instructions.specs.LineB as lb
@@ -301,15 +304,23 @@ module _ (g : List ℕ) (at sr : ℕ) (m : Memory) (op : ℕ) where
   multiply-made =
       rw next-word (load-made at sr m (plus at 2) Word (operandAt g m (plus at 4) op Long) nothing _ (source-only at sr m g (plus at 4) op Long nothing _ (does-nothing refl)))
 
-  divide-made : Makes (wordAt (plus at 2) ++ operandAt g m (plus at 4) op Long) (eff.divideEffect g at sr m op) (l4.divL g at sr m op)
-  unfolding l4.divL done source
+  -- every divide, by an operand of the size z whose extension words are at pc
+  divide-does : (pc : ℕ) (z : Size) (q : Quotient) (to : Write)
+      → Does at sr (eff.divideEffect g at sr m op pc z) (l4.dividing z sr (source g m pc op z) (eff.operandValue g at sr m op pc z) q to)
+  unfolding done source
+  divide-does pc z q to =
+      either-made at sr m (eqb (eff.operandValue g at sr m op pc z) 0) [] _ nothing _ _
+      (does-enter (zero-divide (moved-long g (named op) z) (plus-below _ _)))
+      (either-quiet at sr m (q .fits) _ _ refl refl)
+
+  divide-made : Makes (wordAt (plus at 2) ++ operandAt g m (plus at 4) op Long) (eff.divideEffect g at sr m op (plus at 4) Long) (l4.divL g at sr m op)
+  unfolding l4.divL
   divide-made =
+      let w : ℕ = numberAt m (plus at 2) Word in
+      let q : Quotient = l4.divided w (dataOf g (bits 14 12 w)) (eff.operandValue g at sr m op (plus at 4) Long) in
       rw next-word
       (load-made at sr m (plus at 2) Word (operandAt g m (plus at 4) op Long) _ _
-      (source-only at sr m g (plus at 4) op Long _ _
-      (either-made at sr m (eqb (eff.operandValue g at sr m op (plus at 4) Long) 0) [] _ nothing _ _
-      (does-enter (zero-divide (moved-long g (named op) Long) (plus-below _ _)))
-      (either-quiet at sr m (l4.divided _ (dataOf g (bits 14 12 _)) _ .fits) _ _ refl refl))))
+      (source-only at sr m g (plus at 4) op Long _ _ (divide-does (plus at 4) Long q (l4.quotientTo w q))))
 
   pub line4-made : (other n : ℕ) → ((firstRow 4 + placeIn (firstRow 4) n ≡ movecRead) ⊎ (firstRow 4 + placeIn (firstRow 4) n ≡ movecWrite))
       ⊎ Makes (acc.reads4 g at m op n) (eff.effects4 g at sr m op n) (l4.line4 n g at sr other m op)
@@ -350,7 +361,7 @@ module _ (g : List ℕ) (at sr : ℕ) (m : Memory) (op : ℕ) where
       (row (acc.manyReads g at m op) (eff.manyEffect g at sr m op storesMany) (l4.movem true g at sr m op) (move-many true)
       (row (acc.manyReads g at m op) (eff.manyEffect g at sr m op loadsMany) (l4.movem false g at sr m op) (move-many false)
       (row (wordAt (plus at 2) ++ operandAt g m (plus at 4) op Long) nothing (l4.mulL g at sr m op) multiply-made
-      (row (wordAt (plus at 2) ++ operandAt g m (plus at 4) op Long) (eff.divideEffect g at sr m op) (l4.divL g at sr m op) divide-made
+      (row (wordAt (plus at 2) ++ operandAt g m (plus at 4) op Long) (eff.divideEffect g at sr m op (plus at 4) Long) (l4.divL g at sr m op) divide-made
       (row (from Byte) (eff.updates g at sr m op (plus at 2) Byte (λ v. withBit 7 true v)) (l4.tas g at sr m op) tas-made
       (row (extensionOf (plus at 2) op (sizeField op)) (eff.sets g at sr m op (plus at 2) (sizeField op) 0) (l4.clr g at sr m op) clear-made
       (row (from (sizeField op)) nothing (l4.tst g at sr m op) test-made
@@ -477,7 +488,7 @@ module _ (g : List ℕ) (at sr : ℕ) (m : Memory) (op : ℕ) where
       end)))
       (placeIn (firstRow 7) n)
 
-  -- ---- lines B, C, E and F
+  -- ---- lines B, C, 8, E and F
 
   compare-address : (z : Size) → Makes (from z) nothing (lb.cmpa z g at sr m op)
   unfolding lb.cmpa done
@@ -523,6 +534,23 @@ module _ (g : List ℕ) (at sr : ℕ) (m : Memory) (op : ℕ) where
       (row (from (anySize op)) (eff.logicEffect g at sr m op And) (lb.logicToPlace And g at sr m op) (logic-to-place And)
       end))))
       (placeIn (firstRow 0xC) n)
+
+  divide-words : (signs : Bool) → Makes (from Word) (eff.divideEffect g at sr m op (plus at 2) Word) (l8.divW signs g at sr m op)
+  unfolding l8.divW
+  divide-words signs =
+      let q : Quotient = l8.wordDivided signs (dataOf g (upper op)) (eff.operandValue g at sr m op (plus at 2) Word) in
+      source-only at sr m g (plus at 2) op Word _ _ (divide-does (plus at 2) Word q (writeData (upper op) (l8.remainderAndQuotient q)))
+
+  pub line8-made : (n : ℕ) → Makes (acc.reads8 g at m op n) (eff.effects8 g at sr m op n) (l8.line8 n g at sr m op)
+  unfolding acc.reads8 eff.effects8 l8.line8
+  line8-made n =
+      all-made at sr m
+      (row (from Word) (eff.divideEffect g at sr m op (plus at 2) Word) (l8.divW false g at sr m op) (divide-words false)
+      (row (from Word) (eff.divideEffect g at sr m op (plus at 2) Word) (l8.divW true g at sr m op) (divide-words true)
+      (row (from (anySize op)) nothing (lc.logicToData Or g at sr m op) (logic-to-data Or)
+      (row (from (anySize op)) (eff.logicEffect g at sr m op Or) (lb.logicToPlace Or g at sr m op) (logic-to-place Or)
+      end))))
+      (placeIn (firstRow 8) n)
 
   -- a shift, and every other word of the line, reads nothing
   pub lineE-made : (n : ℕ) → Makes none (eff.effectsE g at sr m op n) (le.lineE n g at sr op)

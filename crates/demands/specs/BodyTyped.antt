@@ -48,6 +48,7 @@ use Rattle.instructions.specs.Line4 as l4
 use Rattle.instructions.specs.Line5 as l5
 use Rattle.instructions.specs.Line6 as l6
 use Rattle.instructions.specs.Line7 as l7
+use Rattle.instructions.specs.Line8 as l8
 use Rattle.instructions.specs.Line9D as l9
 use Rattle.instructions.specs.LineA as la
 use Rattle.instructions.specs.LineB as lb
@@ -396,13 +397,16 @@ module _ (g : List ℕ) (all : Longs g) (at : ℕ) (here : IsLong at) (sr : ℕ)
       by true = h .quotient-fits
       by false = h .remainder-fits
 
+  -- every divide, by an operand of the size z whose extension words are at pc
+  dividing-fits : (pc : ℕ) (z : Size) (v : ℕ) (q : Quotient) (to : Write) → IsLong (to .value) → FitsLong (l4.dividing z sr (source g m pc op z) v q to)
+  dividing-fits pc z v q to h =
+      either-fits (eqb v 0) _ _ (fit.enter-after-fits _ sr 5 _ (next-long pc z) (moved-long pc z))
+      (either-fits (q .fits) _ _ (done-fits _ _ _ to (next-long pc z) (moved-long pc z) h) (source-alone pc z _))
+
   divide-by : (pc w v : ℕ) → FitsLong (l4.divLBy g sr w (source g m pc op Long) v)
   divide-by pc w v =
       let q : Quotient = l4.divided w (dataOf g (bits 14 12 w)) v in
-      either-fits (eqb v 0) _ _ (fit.enter-after-fits _ sr 5 _ (next-long pc Long) (moved-long pc Long))
-      (either-fits (q .fits) _ _
-      (done-fits _ _ _ _ (next-long pc Long) (moved-long pc Long) (quotient-to w q (divided-fits w _ v (fit.data-long g all _))))
-      (source-alone pc Long _))
+      dividing-fits pc Long v q _ (quotient-to w q (divided-fits w _ v (fit.data-long g all _)))
 
   divide-fits : FitsLong (l4.divL g at sr m op)
   unfolding l4.divL
@@ -577,7 +581,7 @@ module _ (g : List ℕ) (all : Longs g) (at : ℕ) (here : IsLong at) (sr : ℕ)
   unfolding l7.line7
   line7-fits n = row-fits (move-signed & move-zero & move-quick & end) (placeIn (firstRow 7) n)
 
-  -- ---- lines B, C, E and F
+  -- ---- lines B, C, 8, E and F
 
   compare-address : (z : Size) → FitsLong (lb.cmpa z g at sr m op)
   unfolding lb.cmpa
@@ -615,6 +619,21 @@ module _ (g : List ℕ) (all : Longs g) (at : ℕ) (here : IsLong at) (sr : ℕ)
   unfolding lc.lineC
   lineC-fits n =
       row-fits (multiply-words false & multiply-words true & logic-to-data And & logic-to-place And & end) (placeIn (firstRow 0xC) n)
+
+  both-words : (q : Quotient) → IsLong (writeData (upper op) (l8.remainderAndQuotient q) .value)
+  unfolding l8.remainderAndQuotient writeData
+  both-words q = fit.two-words-long (q .remainder) (q .quotient)
+
+  divide-words : (signs : Bool) → FitsLong (l8.divW signs g at sr m op)
+  unfolding l8.divW
+  divide-words signs =
+      source-fits (plus at 2) Word _
+      (λ v h. let q : Quotient = l8.wordDivided signs (dataOf g (upper op)) v in dividing-fits (plus at 2) Word v q _ (both-words q))
+
+  pub line8-fits : (n : ℕ) → FitsLong (l8.line8 n g at sr m op)
+  unfolding l8.line8
+  line8-fits n =
+      row-fits (divide-words false & divide-words true & logic-to-data Or & logic-to-place Or & end) (placeIn (firstRow 8) n)
 
   shifted-long : (left signs : Bool) (v n : ℕ) → IsLong v → IsLong (cond left (shiftedLeft v n) (cond signs (signedShiftedRight v n) (shiftedRight v n)) .value)
   shifted-long true signs v n h = fit.left-long v n
@@ -766,7 +785,7 @@ module _ (g : List ℕ) (all : Longs g) (at : ℕ) (here : IsLong at) (sr : ℕ)
       & line5-fits n
       & line6-fits n
       & line7-fits n
-      & not-carried-fits
+      & line8-fits n
       & sums-fit (firstRow 9) false n
       & lineA-fits e n status mask
       & lineB-fits n

@@ -17,7 +17,7 @@ use Rattle.manual.specs.declared.Reached.{Reached}
 use Rattle.manual.specs.declared.Reached.the-variants.{At, NoAddress}
 use Rattle.manual.specs.declared.Write.{Write}
 use Rattle.manual.specs.declared.Logic.{Logic}
-use Rattle.manual.specs.declared.Logic.the-variants.{And, Eor}
+use Rattle.manual.specs.declared.Logic.the-variants.{And, Or, Eor}
 use Rattle.manual.specs.declared.Level.the-variants.{Kept}
 use Rattle.manual.specs.Word.{bytes, plus, minus, signExtended}
 use Rattle.manual.specs.Bits.{logic, withBit, changedBit}
@@ -148,10 +148,9 @@ module _ (g : List ℕ) (at sr : ℕ) (m : Memory) (op : ℕ) where
       cond (eqb (mode op) 2) (many regs a)
       (cond (eqb (mode op) 5) (many regs (plus a (signExtended Word (numberAt m (plus at 4) Word)))) (illegalWord at))
 
-  -- DIVS.L, DIVU.L, REMS.L, REMU.L: a divide by zero enters vector 5, with the next instruction's program counter
-  abbrev pub divideEffect : Effect
-  divideEffect =
-      cond (eqb (operandValue (plus at 4) Long) 0) (enters (operandMove Long) 5 (plus (plus at 4) (extension (named op) Long))) nothing
+  -- every divide, by the operand whose extension words are at pc: by zero it enters vector 5, with the next instruction's program counter
+  abbrev pub divideEffect : ℕ → Size → Effect
+  divideEffect pc z = cond (eqb (operandValue pc z) 0) (enters (operandMove z) 5 (plus pc (extension (named op) z))) nothing
 
   unfoldable pub effects4 : ℕ → Effect
   effects4 row =
@@ -190,7 +189,7 @@ module _ (g : List ℕ) (at sr : ℕ) (m : Memory) (op : ℕ) where
       manyEffect storesMany ∷  -- MOVEM_STORE
       manyEffect loadsMany ∷  -- MOVEM_LOAD
       nothing ∷  -- MUL_L
-      divideEffect ∷  -- DIV_L
+      divideEffect (plus at 4) Long ∷  -- DIV_L
       updates (plus at 2) Byte (λ v. withBit 7 true v) ∷  -- TAS
       sets (plus at 2) (sizeField op) 0 ∷  -- CLR
       nothing ∷  -- TST
@@ -236,6 +235,20 @@ module _ (g : List ℕ) (at sr : ℕ) (m : Memory) (op : ℕ) where
       [])
       (placeIn (firstRow 7) row) (illegalWord at)
 
+  -- Dn and the operand are combined
+  abbrev pub logicEffect : Logic → Effect
+  logicEffect l = updates (plus at 2) (anySize op) λ v. logic l v (dataOf g (upper op))
+
+  unfoldable pub effects8 : ℕ → Effect
+  effects8 row =
+      getD
+      (divideEffect (plus at 2) Word ∷  -- DIVU_W
+      divideEffect (plus at 2) Word ∷  -- DIVS_W
+      nothing ∷  -- OR_DN
+      logicEffect Or ∷  -- OR_MEM
+      [])
+      (placeIn (firstRow 8) row) (illegalWord at)
+
   -- lines 9 and D, from their first row on
   unfoldable pub effects9D : ℕ → Bool → ℕ → Effect
   effects9D first add row =
@@ -276,10 +289,6 @@ module _ (g : List ℕ) (at sr : ℕ) (m : Memory) (op : ℕ) where
       [])
       (placeIn (firstRow 0xA) row) (illegalWord at)
 
-  -- Dn and the operand are combined
-  abbrev pub logicEffect : Logic → Effect
-  logicEffect l = updates (plus at 2) (anySize op) λ v. logic l v (dataOf g (upper op))
-
   unfoldable pub effectsB : ℕ → Effect
   effectsB row =
       getD
@@ -319,7 +328,7 @@ module _ (g : List ℕ) (at sr : ℕ) (m : Memory) (op : ℕ) where
       [])
       (placeIn (firstRow 0xF) row) (illegalWord at)
 
-  -- the line is the top four bits; line 8 is not carried
+  -- the line is the top four bits
   unfoldable pub effect : Effect
   effect =
       let row : ℕ = rowOf op in
@@ -332,7 +341,7 @@ module _ (g : List ℕ) (at sr : ℕ) (m : Memory) (op : ℕ) where
       effects5 row ∷
       effects6 row ∷
       effects7 row ∷
-      nothing ∷
+      effects8 row ∷
       effects9D (firstRow 9) false row ∷
       effectsA row ∷
       effectsB row ∷

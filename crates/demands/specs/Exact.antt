@@ -5,7 +5,7 @@
 --   2  state not admitted (AdmittedMeans says which are)
 --   3  state stopped (step; run with budget left)
 --   4  an access this call makes is not inside (those of a step are listed in Accesses and Effects)
---   5  line 8; 0x4E7A, 0x4E7B; EMAC word operand
+--   5  0x4E7A, 0x4E7B; EMAC word operand
 --   6  level above 7, or accumulator number above 3
 --   7  interrupt masked: level below 7 and at most the mask
 --   8  block or file: first byte not 1
@@ -81,7 +81,6 @@ pub record Meanings : Type 0 where
 
 -- a word op at `at` that is not carried
 pub data NotCarriedWord (m : Memory) (at op : ℕ) : Type 0 where
-  line-8 : op / 0x1000 ≡ 8 → NotCarriedWord m at op
   movec : (op ≡ 0x4E7A) ⊎ (op ≡ 0x4E7B) → NotCarriedWord m at op
   -- a MAC word, A000/F100, of a mode below 6, whose second word is inside and has bit 11 clear
   word-operand : bitAnd op 0xF100 ≡ 0xA000 → op / 8 % 8 ≤ 5 → Inside m (plus at 2) 2 → numberAt m (plus at 2) Word / 0x800 % 2 ≡ 0
@@ -184,6 +183,8 @@ pub record Reply5 : Type 0 where
       (numberOf (r .ran .reply) ≡ 5)
       ↔ (Ready s l
       × ((r .ran .count < budget) × ((r .ran .cpu .stopped ≡ false) × (Inside m pc 2 × NotCarriedWord m pc (numberAt m pc Word)))))
+  -- no word of line 8 is one of these
+  pub line-8-carried : (m : Memory) (at op : ℕ) → op / 0x1000 ≡ 8 → NotCarriedWord m at op → ⊥
 
 pub record Reply6 : Type 0 where
   pub exception-6 : (s : Cpu) (l : Lent) (vector pc level : ℕ) → (numbered (exception s l vector pc (To level)) ≡ 6) ↔ (Ready s l × (8 ≤ level))

@@ -186,6 +186,10 @@ signed-quotient-long a b =
     (record { quotient-fits = modZ-below q (2 ^ 32) (omega arith); remainder-fits = modZ-below r (2 ^ 32) (omega arith) })
     none-fits)
 
+-- one word above another
+pub two-words-long : (high low : ℕ) → IsLong (cut Word high * 0x1_0000 + cut Word low)
+two-words-long high low = omega (arith, cut-below Word high, cut-below Word low)
+
 pub left-long : (v n : ℕ) → IsLong (shiftedLeft v n .value)
 unfolding shiftedLeft
 left-long v n = mod-lt (v * 2 ^ n) (omega arith)

@@ -1,5 +1,6 @@
--- The document's examples that were checked by hand, as one table with a single claim, by computation straight from the definition
--- of a step, of `exception` and of `rte`. Document: "Checked by hand", the examples marked *. Assumes nothing.
+-- The document's examples that were checked by hand, and line 8's, as one table with a single claim, by computation straight from the
+-- definition of a step, of `exception` and of `rte`. Document: "Checked by hand", the examples marked *. It has none of line 8:
+-- their answers were worked out by hand, N after an overflow and OR.B as docs/DIFFERENCES.md has them (33, 23). Assumes nothing.
 use Prim.Native.Nat.{ℕ, _+_, _/_, _%_, _^_}
 use mathlib.Core.Path.{_≡_, refl}
 use mathlib.Core.Bool.{false, cond}
@@ -29,13 +30,15 @@ use Rattle.instructions.specs.Rows.{rowOf, placeIn}
 use Rattle.manual.specs.Block.{fresh}
 use Rattle.instructions.specs.Line0 as l0
 use Rattle.instructions.specs.Line4 as l4
+use Rattle.instructions.specs.Line8 as l8
 use Rattle.instructions.specs.Line9D as l9
 use Rattle.instructions.specs.LineA as la
+use Rattle.instructions.specs.LineC as lc
 use Rattle.instructions.specs.LineE as le
 use Rattle.instructions.specs.Perform.{perform}
 use Rattle.instructions.specs.Step.{instruction, execute, step}
 
--- an example: what the definition gives, and what the document says
+-- an example: what the definition gives, and what the document says, or was worked out by hand
 pub record Example : Type 0 where
   pub given : List ℕ
   pub said : List ℕ
@@ -102,6 +105,13 @@ accumulated words d0 a4 macsr acc0 =
     let o : Outcome = step (state (set (set (zeros 16) 0 d0) 12 a4) 0x2700 macsr (acc0 ∷ zeros 3)) (program words) in
     numberOf (o .stepped .reply) ∷ getD (o .stepped .cpu .emac .acc) 0 0 ∷ getD (o .stepped .cpu .emac .acc) 1 0 ∷ []
 
+-- the reply's number, the vector, the program counter in the frame and D0 after one step of a program, from D0, the other data registers
+-- being 0; A7 is 0x20
+abbrev enteredFrom : List ℕ → ℕ → List ℕ
+enteredFrom words d0 =
+    let o : Outcome = step (state (set (d0 ∷ zeros 15) 15 0x20) 0x2700 0 (zeros 4)) (lent (bytesOf words ++ zeros 0x20)) in
+    numberOf (o .stepped .reply) ∷ o .stepped .vector ∷ memory.valueAt (o .storage) 0x1C 4 ∷ getD (o .stepped .cpu .r) 0 0 ∷ []
+
 -- an entry with A7, and then the return: A7, the frame's two longs, A7 and the program counter
 abbrev undone : ℕ → ℕ → ℕ → ℕ → List ℕ
 undone a7 sr vector pc =
@@ -131,6 +141,25 @@ examples =
     ∷ (after (0x4C41 ∷ 0x0800 ∷ []) 0x8000_0000 0xFFFF_FFFF 0 (Z + C) is 0 ∷ 0x8000_0000 ∷ 0xFFFF_FFFF ∷ 0 ∷ «V» ∷ [])
     -- REMS -7 by 2 into another register: -1, N from quotient -3
     ∷ (after (0x4C41 ∷ 0x0802 ∷ []) 0xFFFF_FFF9 2 0 0 is 0 ∷ 0xFFFF_FFF9 ∷ 2 ∷ 0xFFFF_FFFF ∷ N ∷ [])
+    -- DIVU.W 0x10000 by 2: the quotient 0x8000 fits, and N is its bit 15. DIVS.W: it is no signed word
+    ∷ (after (0x80C1 ∷ []) 0x1_0000 2 0 X is 0 ∷ 0x8000 ∷ 2 ∷ 0 ∷ (X + N) ∷ [])
+    ∷ (after (0x81C1 ∷ []) 0x1_0000 2 0 (X + N + Z + C) is 0 ∷ 0x1_0000 ∷ 2 ∷ 0 ∷ (X + N + «V») ∷ [])
+    -- DIVU.W 0x20000 by 2: the quotient is no word. 1 by 2: remainder 1, and Z of quotient 0, though D0 is not 0
+    ∷ (after (0x80C1 ∷ []) 0x2_0000 2 0 (Z + C) is 0 ∷ 0x2_0000 ∷ 2 ∷ 0 ∷ «V» ∷ [])
+    ∷ (after (0x80C1 ∷ []) 1 2 0 0 is 0 ∷ 0x1_0000 ∷ 2 ∷ 0 ∷ Z ∷ [])
+    -- DIVS.W 0x80000000 by -1: D0 kept, V set. By -0x8000, all of D1 but its low word ignored: 0x10000, too large as well
+    ∷ (after (0x81C1 ∷ []) 0x8000_0000 0xFFFF 0 (Z + C) is 0 ∷ 0x8000_0000 ∷ 0xFFFF ∷ 0 ∷ «V» ∷ [])
+    ∷ (after (0x81C1 ∷ []) 0x8000_0000 0x1_8000 0 0 is 0 ∷ 0x8000_0000 ∷ 0x1_8000 ∷ 0 ∷ «V» ∷ [])
+    -- DIVS.W -7 by 2: remainder -1, quotient -3. 7 by -2: remainder 1, quotient -3. -0x8000 is the lowest quotient
+    ∷ (after (0x81C1 ∷ []) 0xFFFF_FFF9 2 0 0 is 0 ∷ 0xFFFF_FFFD ∷ 2 ∷ 0 ∷ N ∷ [])
+    ∷ (after (0x81C1 ∷ []) 7 0xFFFE 0 0 is 0 ∷ 0x1_FFFD ∷ 0xFFFE ∷ 0 ∷ N ∷ [])
+    ∷ (after (0x81C1 ∷ []) 0xFFFF_8000 1 0 0 is 0 ∷ 0x8000 ∷ 1 ∷ 0 ∷ N ∷ [])
+    -- DIVU.W and DIVS.W by 0 enter vector 5 with the next instruction's program counter, and keep D0
+    ∷ (enteredFrom (0x80C1 ∷ []) 7 is 0 ∷ 5 ∷ 2 ∷ 7 ∷ [])
+    ∷ (enteredFrom (0x81FC ∷ 0 ∷ []) 7 is 0 ∷ 5 ∷ 4 ∷ 7 ∷ [])
+    -- OR.B keeps the upper 24 bits, and N is bit 7 of the result
+    ∷ (after (0x8001 ∷ []) 0x1234_5601 0xFF80 0 (X + Z + «V» + C) is 0 ∷ 0x1234_5681 ∷ 0xFF80 ∷ 0 ∷ (X + N) ∷ [])
+    ∷ (after (0x8001 ∷ []) 0x8000_8000 0xFF00 0 0 is 0 ∷ 0x8000_8000 ∷ 0xFF00 ∷ 0 ∷ Z ∷ [])
     -- FF1 of 0 is 32; of 0x00800000 is 8
     ∷ (after (0x04C0 ∷ []) 0 0 0 0 is 0 ∷ 32 ∷ 0 ∷ 0 ∷ Z ∷ [])
     ∷ (after (0x04C0 ∷ []) 0x0080_0000 0 0 0 is 0 ∷ 8 ∷ 0 ∷ 0 ∷ 0 ∷ [])
@@ -152,5 +181,5 @@ examples =
     ∷ [])
 
 pub checked-by-hand : map (λ x. x .given) examples ≡ map (λ x. x .said) examples
-unfolding examples step execute bits.withBit instruction perform rowOf placeIn admitted.admitted admitted.status admitted.emacAdmitted memory.load memory.valueAt memory.storeAt memory.storing memory.stored word.cut word.merged word.plus word.minus word.sizeOf word.signedAt word.signExtended registers.dataOf registers.addressOf registers.general registers.noWrite registers.writeData registers.writeAddress registers.written registers.withParts registers.withAddress registers.withPc registers.withSr registers.withStopped registers.withEmac registers.coded registers.applied address.operand address.extension address.source address.value address.fetch address.locate address.moved address.control address.destinationOf change.done change.acting change.store change.put change.putTo flags.codes flags.keptCodes flags.moveCodes flags.added flags.subtracted flags.sumOrDifference flags.sumCodes l9.sums l9.addToData le.lineE le.shift le.shifted le.shiftCount shift.shiftedLeft shift.signedShiftedRight shift.shiftCodes l4.line4 l4.divL l4.divided l4.extb l4.lea l4.halt l4.tas divide.signedQuotient divide.overflowCodes l0.line0 l0.ff1 leadingZeros la.lineA la.mac la.macRegisters la.moveToEmac la.setting la.moveAccToAcc emac.modeOf emac.accOf emac.withAcc emac.withSum emac.accumulate emac.setAcc emac.copyAcc exceptions.setSr exceptions.handlerSr exceptions.frameLong exceptions.handlerState exceptions.entered exceptions.returnState exceptions.returned exceptions.exception exceptions.rte fresh lents.lentRefusal lents.stateRefusal lents.firstRefusal memory.access
+unfolding examples step execute bits.withBit instruction perform rowOf placeIn admitted.admitted admitted.status admitted.emacAdmitted memory.load memory.valueAt memory.storeAt memory.storing memory.stored word.cut word.merged word.plus word.minus word.sizeOf word.signedAt word.signExtended registers.dataOf registers.addressOf registers.general registers.noWrite registers.writeData registers.writeAddress registers.written registers.withParts registers.withAddress registers.withPc registers.withSr registers.withStopped registers.withEmac registers.coded registers.applied address.operand address.extension address.source address.value address.fetch address.locate address.immediate address.moved address.control address.destinationOf change.done change.acting change.enterAfter change.store change.put change.putTo flags.codes flags.keptCodes flags.moveCodes flags.added flags.subtracted flags.sumOrDifference flags.sumCodes l9.sums l9.addToData le.lineE le.shift le.shifted le.shiftCount shift.shiftedLeft shift.signedShiftedRight shift.shiftCodes l4.line4 l4.divL l4.divided l4.extb l4.lea l4.halt l4.tas l8.line8 l8.divW l8.wordDivided l8.remainderAndQuotient lc.logicToData bits.logic divide.quotient divide.signedQuotient divide.wordQuotient divide.signedWordQuotient divide.overflowCodes l0.line0 l0.ff1 leadingZeros la.lineA la.mac la.macRegisters la.moveToEmac la.setting la.moveAccToAcc emac.modeOf emac.accOf emac.withAcc emac.withSum emac.accumulate emac.setAcc emac.copyAcc exceptions.setSr exceptions.handlerSr exceptions.frameLong exceptions.handlerState exceptions.entered exceptions.returnState exceptions.returned exceptions.exception exceptions.rte fresh lents.lentRefusal lents.stateRefusal lents.firstRefusal memory.access
 checked-by-hand = refl

@@ -32,6 +32,7 @@ use Rattle.instructions.specs.Line4 as l4
 use Rattle.instructions.specs.Line5 as l5
 use Rattle.instructions.specs.Line6 as l6
 use Rattle.instructions.specs.Line7 as l7
+use Rattle.instructions.specs.Line8 as l8
 use Rattle.instructions.specs.Line9D as l9
 use Rattle.instructions.specs.LineA as la
 use Rattle.instructions.specs.LineB as lb
@@ -43,7 +44,7 @@ use Rattle.demands.specs.Accesses.{none, wordAt, longAt, Wanted, Inside}
 use Rattle.demands.specs.Effects as eff
 use Rattle.demands.specs.Effects.{Effect, nothing, enters, illegalWord, line-a as by-line-a}
 use Rattle.demands.specs.PartLaws.{Made, does-nothing, does-enter, illegal-does, either-reads, load-made, end, row, out, listed, accessAll, past-inside}
-use Rattle.demands.specs.BodyLaws.{movecRead, movecWrite, macRow, line0-made, moves-made, line4-made, sums-made, line5-made, line6-made, line7-made, lineB-made, lineC-made, lineE-made, lineF-made, lineA-made}
+use Rattle.demands.specs.BodyLaws.{movecRead, movecWrite, macRow, line0-made, moves-made, line4-made, sums-made, line5-made, line6-made, line7-made, line8-made, lineB-made, lineC-made, lineE-made, lineF-made, lineA-made}
 use Rattle.demands.specs.AccessLaws.{load-inside, load-not}
 
 -- ---- MAC and MSAC: a word operand is not carried, in the modes that an instruction of the line has
@@ -174,6 +175,9 @@ module _ (op : ℕ) (small : op < 0x1_0000) where
   pub mac-fits : rowOf op ≡ macRow → bitAnd op 0xF100 ≡ 0xA000
   mac-fits e = fits-row macRow e
 
+  pub mac-in-line : bitAnd op 0xF100 ≡ 0xA000 → op / 0x1000 ≡ 10
+  mac-in-line f = sym (in-line op macRow small (lit< tt) f .0)
+
 -- no row that fits a word of the row MAC, A000/F100, has more fixed bits
 abbrev asMac : ℕ → Bool
 asMac q = elim (eqb (bitAnd (rowValue q) 0xF100) (bitAnd 0xA000 (rowMask q))) [ true ↦ leb (fixedBits q) (fixedBits macRow) | false ↦ true ]
@@ -195,9 +199,9 @@ mac-row op small f =
 
 -- ---- every instruction
 
--- line 8, the rows MOVEC_READ and MOVEC_WRITE, and the row MAC with a word operand
+-- the rows MOVEC_READ and MOVEC_WRITE, and the row MAC with a word operand
 abbrev pub Excused : ℕ → Memory → ℕ → Type 0
-Excused at m op = (op / 0x1000 % 16 ≡ 8) ⊎ (((rowOf op ≡ movecRead) ⊎ (rowOf op ≡ movecWrite)) ⊎ ((rowOf op ≡ macRow) × MacWord at m op))
+Excused at m op = ((rowOf op ≡ movecRead) ⊎ (rowOf op ≡ movecWrite)) ⊎ ((rowOf op ≡ macRow) × MacWord at m op)
 
 module _ (g : List ℕ) (at sr other : ℕ) (e : Emac) (m : Memory) (op : ℕ) where
   abbrev its-reads : List Wanted
@@ -209,11 +213,11 @@ module _ (g : List ℕ) (at sr other : ℕ) (e : Emac) (m : Memory) (op : ℕ) w
   abbrev its-change : Change
   its-change = instruction g at sr other e m op
 
-  lines : ((0 + op / 0x1000 % 16 ≡ 4) ⊎ ((0 + op / 0x1000 % 16 ≡ 8) ⊎ (0 + op / 0x1000 % 16 ≡ 10))) ⊎ Made at sr m its-reads its-effect its-change
+  lines : ((0 + op / 0x1000 % 16 ≡ 4) ⊎ (0 + op / 0x1000 % 16 ≡ 10)) ⊎ Made at sr m its-reads its-effect its-change
   unfolding acc.reads eff.effect instruction
   lines =
       let n : ℕ = rowOf op in
-      listed at sr m {P = λ k. (k ≡ 4) ⊎ ((k ≡ 8) ⊎ (k ≡ 10))}
+      listed at sr m {P = λ k. (k ≡ 4) ⊎ (k ≡ 10)}
       (row (acc.reads0 g at m op n) (eff.effects0 g at sr m op n) (l0.line0 n g at sr m op) (line0-made g at sr m op n)
       (row (acc.readsMoves g at m op (firstRow 1) Byte n) (eff.effectsMoves g at sr m op (firstRow 1) Byte n) (moves.line1 n g at sr m op) (moves-made g at sr m op (firstRow 1) Byte n)
       (row (acc.readsMoves g at m op (firstRow 2) Long n) (eff.effectsMoves g at sr m op (firstRow 2) Long n) (moves.line2 n g at sr m op) (moves-made g at sr m op (firstRow 2) Long n)
@@ -222,9 +226,9 @@ module _ (g : List ℕ) (at sr other : ℕ) (e : Emac) (m : Memory) (op : ℕ) w
       (row (acc.reads5 g at m op n) (eff.effects5 g at sr m op n) (l5.line5 n g at sr m op) (line5-made g at sr m op n)
       (row (acc.reads6 g at m op n) (eff.effects6 g at sr m op n) (l6.line6 n g at sr m op) (line6-made g at sr m op n)
       (row (acc.reads7 g at m op n) (eff.effects7 g at sr m op n) (l7.line7 n g at sr m op) (line7-made g at sr m op n)
-      (out none nothing notCarried (inr (inl refl))
+      (row (acc.reads8 g at m op n) (eff.effects8 g at sr m op n) (l8.line8 n g at sr m op) (line8-made g at sr m op n)
       (row (acc.reads9D g at m op (firstRow 9) n) (eff.effects9D g at sr m op (firstRow 9) false n) (l9.line9 n g at sr m op) (sums-made g at sr m op (firstRow 9) false n)
-      (out (acc.readsA g at m op (e .mask) n) (eff.effectsA g at sr m op n) (la.lineA n g at sr e m op) (inr (inr refl))
+      (out (acc.readsA g at m op (e .mask) n) (eff.effectsA g at sr m op n) (la.lineA n g at sr e m op) (inr refl)
       (row (acc.readsB g at m op n) (eff.effectsB g at sr m op n) (lb.lineB n g at sr m op) (lineB-made g at sr m op n)
       (row (acc.readsC g at m op n) (eff.effectsC g at sr m op n) (lc.lineC n g at sr m op) (lineC-made g at sr m op n)
       (row (acc.reads9D g at m op (firstRow 0xD) n) (eff.effects9D g at sr m op (firstRow 0xD) true n) (l9.lineD n g at sr m op) (sums-made g at sr m op (firstRow 0xD) true n)
@@ -242,10 +246,6 @@ module _ (g : List ℕ) (at sr other : ℕ) (e : Emac) (m : Memory) (op : ℕ) w
   in-line-4 : op / 0x1000 % 16 ≡ 4 → InLine (acc.reads4 g at m op (rowOf op)) (eff.effects4 g at sr m op (rowOf op)) (l4.line4 (rowOf op) g at sr other m op)
   unfolding acc.reads eff.effect instruction
   in-line-4 h = record { reads-are = rw h; effect-is = rw h; change-is = rw h }
-
-  in-line-8 : op / 0x1000 % 16 ≡ 8 → InLine none nothing notCarried
-  unfolding acc.reads eff.effect instruction
-  in-line-8 h = record { reads-are = rw h; effect-is = rw h; change-is = rw h }
 
   in-line-a : op / 0x1000 % 16 ≡ 10 → InLine (acc.readsA g at m op (e .mask) (rowOf op)) (eff.effectsA g at sr m op (rowOf op)) (la.lineA (rowOf op) g at sr e m op)
   unfolding acc.reads eff.effect instruction
@@ -281,7 +281,7 @@ module _ (g : List ℕ) (at sr other : ℕ) (e : Emac) (m : Memory) (op : ℕ) w
       not-carried k =
           let r : (rowOf op ≡ movecRead) ⊎ (rowOf op ≡ movecWrite) = ⊎-elim (λ x. inl (row-at (firstRow 4) (rowOf op) movecRead (lit< tt) x)) (λ x. inr (row-at (firstRow 4) (rowOf op) movecWrite (lit< tt) x)) k in
           let i : InLine none nothing notCarried = movec-at r h in
-          inl (record { excused = inr (inl r); refused-5 = i .change-is; inside-all = ap (accessAll m) (i .reads-are); no-effect = i .effect-is })
+          inl (record { excused = inl r; refused-5 = i .change-is; inside-all = ap (accessAll m) (i .reads-are); no-effect = i .effect-is })
 
   line-a : op / 0x1000 % 16 ≡ 10 → Either
   line-a h = ⊎-elim row-mac (λ f. line-made (in-line-a h) f) (lineA-made g at sr m op e (rowOf op))
@@ -292,7 +292,7 @@ module _ (g : List ℕ) (at sr other : ℕ) (e : Emac) (m : Memory) (op : ℕ) w
           let i : InLine (acc.macReads g at m op (e .mask)) (eff.macEffect g at sr m op) (la.mac g at sr (e .mask) m op) = at-mac r h in
           ⊎-elim
           (λ w. inl (record {
-            excused = inr (inr (r, w));
+            excused = inr (r, w);
             refused-5 = i .change-is ∙ mac-refused g at sr (e .mask) m op w;
             inside-all = ap (accessAll m) (i .reads-are) ∙ mac-inside g at sr (e .mask) m op w;
             no-effect = i .effect-is ∙ mac-quiet g at sr (e .mask) m op w;
@@ -302,24 +302,15 @@ module _ (g : List ℕ) (at sr other : ℕ) (e : Emac) (m : Memory) (op : ℕ) w
 
   pub instruction-made : Either
   instruction-made =
-      ⊎-elim
-      (⊎-elim (λ h. line-4 (rw zero-add at h)) (⊎-elim (λ h. in-8 (rw zero-add at h)) (λ h. line-a (rw zero-add at h))))
-      (λ f. inr f)
-      lines
-    where
-      in-8 : op / 0x1000 % 16 ≡ 8 → Either
-      in-8 h =
-          let i : InLine none nothing notCarried = in-line-8 h in
-          inl (record { excused = inl h; refused-5 = i .change-is; inside-all = ap (accessAll m) (i .reads-are); no-effect = i .effect-is })
+      ⊎-elim (⊎-elim (λ h. line-4 (rw zero-add at h)) (λ h. line-a (rw zero-add at h))) (λ f. inr f) lines
 
   movec-line : op < 0x1_0000 → (rowOf op ≡ movecRead) ⊎ (rowOf op ≡ movecWrite) → op / 0x1000 % 16 ≡ 4
   movec-line small (inl h) = omega (arith, movec-read op small h)
   movec-line small (inr h) = omega (arith, movec-write op small h)
 
   mac-line : op < 0x1_0000 → rowOf op ≡ macRow → op / 0x1000 % 16 ≡ 10
-  mac-line small h = omega (arith, in-line op macRow small (lit< tt) (mac-fits op small h) .0)
+  mac-line small h = omega (arith, mac-in-line op small (mac-fits op small h))
 
   pub excused-refused : op < 0x1_0000 → Excused at m op → its-change ≡ notCarried
-  excused-refused small (inl h) = in-line-8 h .change-is
-  excused-refused small (inr (inl h)) = movec-at h (movec-line small h) .change-is
-  excused-refused small (inr (inr h)) = at-mac (h .0) (mac-line small (h .0)) .change-is ∙ mac-refused g at sr (e .mask) m op (h .1)
+  excused-refused small (inl h) = movec-at h (movec-line small h) .change-is
+  excused-refused small (inr h) = at-mac (h .0) (mac-line small (h .0)) .change-is ∙ mac-refused g at sr (e .mask) m op (h .1)

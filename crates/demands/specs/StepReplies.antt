@@ -36,10 +36,10 @@ use Rattle.demands.specs.EffectLaws.{Performs, performs}
 use Rattle.demands.specs.BodyLaws.{movecRead, movecWrite}
 use Rattle.demands.specs.AccessLaws.{word-lt, fault-number}
 use Rattle.demands.specs.FirstReplies.{first-1, first-2, first-of}
-use Rattle.demands.specs.InstructionLaws.{Excused, NotCarriedHere, instruction-made, excused-refused, movec-read, movec-write, mac-fits, mac-row}
+use Rattle.demands.specs.InstructionLaws.{Excused, NotCarriedHere, instruction-made, excused-refused, movec-read, movec-write, mac-fits, mac-in-line, mac-row}
 use Rattle.demands.specs.StepLaws.{doing, fetched, not-fetched, perform-refused, Stepped, stepped}
 use Rattle.demands.specs.ReplyLaws as laws
-use Rattle.demands.specs.Exact.{numbered, Bytes, TooLong, Usable, Ready, NotCarriedWord, line-8, movec, word-operand, OneOf}
+use Rattle.demands.specs.Exact.{numbered, Bytes, TooLong, Usable, Ready, NotCarriedWord, movec, word-operand, OneOf}
 
 -- ---- the words that are not carried
 
@@ -55,16 +55,19 @@ kinds : (m : Memory) (at op : ℕ) → op < 0x1_0000 → Excused at m op ↔ Not
 kinds m at op small = (there, back)
   where
     there : Excused at m op → NotCarriedWord m at op
-    there (inl h) = line-8 (omega arith)
-    there (inr (inl (inl h))) = movec (inl (movec-read op small h))
-    there (inr (inl (inr h))) = movec (inr (movec-write op small h))
-    there (inr (inr h)) = word-operand (mac-fits op small (h .0)) (h .1 .0) (h .1 .1 .0) (h .1 .1 .1)
+    there (inl (inl h)) = movec (inl (movec-read op small h))
+    there (inl (inr h)) = movec (inr (movec-write op small h))
+    there (inr h) = word-operand (mac-fits op small (h .0)) (h .1 .0) (h .1 .1 .0) (h .1 .1 .1)
 
     back : NotCarriedWord m at op → Excused at m op
-    back (line-8 h) = inl (omega arith)
-    back (movec (inl h)) = inr (inl (inl (read-row op h)))
-    back (movec (inr h)) = inr (inl (inr (write-row op h)))
-    back (word-operand f mode i w) = inr (inr (mac-row op small f, (mode, (i, w))))
+    back (movec (inl h)) = inl (inl (read-row op h))
+    back (movec (inr h)) = inl (inr (write-row op h))
+    back (word-operand f mode i w) = inr (mac-row op small f, (mode, (i, w)))
+
+pub line-8-carried : (m : Memory) (at op : ℕ) → op / 0x1000 ≡ 8 → NotCarriedWord m at op → ⊥
+line-8-carried m at op h (movec (inl e)) = omega arith
+line-8-carried m at op h (movec (inr e)) = omega arith
+line-8-carried m at op h (word-operand f mode i w) = omega (arith, mac-in-line op (omega arith) f)
 
 -- ---- a step
 
