@@ -412,8 +412,8 @@ fn runs(c: &mut Compare, r: &mut Random) {
 
 /// Runs of thousands of steps, by programs that loop and by ones that end, and the largest budget.
 fn long_runs(c: &mut Compare, r: &mut Random) {
-    for (_, image) in programs::PROGRAMS {
-        let (s, mut mem) = programs::load(image);
+    for program in programs::kept().iter().filter(|p| p.answer.is_none()) {
+        let (s, mut mem, _) = programs::load(program);
         mem.truncate(0x5000);
         c.check("long runs", Case::of(Call::Run(1000 + r.below(3000)), &s, mem));
     }
@@ -690,6 +690,33 @@ fn differences(c: &mut Compare) {
     }
 }
 
+/// The programs that end, run to their end: both sides alike, and with the known answer. Apart from `check`, for a run of millions
+/// of steps cannot be made smaller.
+fn whole_programs(c: &mut Compare) {
+    for program in programs::kept() {
+        let Some(answer) = program.answer else { continue };
+        let (s, mem, budget) = programs::load(&program);
+        let case = Case::of(Call::Run(budget), &s, mem);
+        let (want, got) = (case.expected(&mut c.oracle), case.got());
+        c.cases += 1;
+        *c.replies.entry(("programs to their end", want.reply.number())).or_insert(0) += 1;
+        c.steps_in_runs += want.value;
+        let known = want.reply == Reply::Stopped && State::from_block(&want.block).is_ok_and(|s| s.d[..2] == answer);
+        if same(&want, &got) && known {
+            continue;
+        }
+        c.differ += 1;
+        println!("{}: the known answer is reply 3 with {answer:08X?}", program.name);
+        for (side, x) in [("the original", &want), ("this core", &got)] {
+            let state = State::from_block(&x.block).map_or_else(|r| format!("a block refused with {}", r.number()), |s| brief(&s));
+            println!("  {side}: reply {} after {} steps, {state}", x.reply.number(), x.value);
+        }
+        if want.mem != got.mem {
+            println!("  the memories differ");
+        }
+    }
+}
+
 #[no_mangle]
 pub extern "C" fn main() -> i32 {
     let args: Vec<u64> = std::env::args().skip(1).map_while(|a| a.parse().ok()).collect();
@@ -712,6 +739,7 @@ pub extern "C" fn main() -> i32 {
     };
     by_hand(&mut c);
     differences(&mut c);
+    whole_programs(&mut c);
     for round in 0..rounds {
         let mut r = Random::new(seed.wrapping_add(round.wrapping_mul(1_000_003)));
         words(&mut c, &mut r);

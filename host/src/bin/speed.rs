@@ -1,7 +1,7 @@
 //! `speed [STEPS [TIMES [PROGRAM]]]`: the original's `execute` in a loop, the archive's `run` and the archive's `step`, called a
 //! tenth as often, on the same programs (host/programs), alternating in one process. Prints nanoseconds of processor time a
 //! step, the best of TIMES (seven), and the archive's speed over the original's for a run and for single steps. After each
-//! turn the states and memories must be equal.
+//! turn the states and memories must be equal. `ZLIB` is the folder where programs/zlib has made its program.
 
 #![no_main]
 
@@ -24,7 +24,7 @@ include!(concat!(env!("OUT_DIR"), "/original.rs"));
 use bus::Bus;
 use cpu::Cpu;
 use host::{Reply, State};
-use programs::{load, PROGRAMS};
+use programs::{load, Program};
 
 extern "C" {
     fn clock_gettime(clock: i32, time: *mut [i64; 2]) -> i32;
@@ -87,45 +87,59 @@ fn original(c: &mut Cpu, budget: u32) -> u32 {
     done
 }
 
+/// One turn: nanoseconds a step of the original, of `run` and of `step`. A program that ends is run to its end, and must leave its
+/// known answer; one that loops does `steps`.
+fn turn(cpu: &mut Cpu, program: &Program, steps: u32) -> [f64; 3] {
+    let name = program.name;
+    let (start, memory, _) = load(program);
+    let (mut block, mut mem) = (start.to_block(), memory.clone());
+    let single = steps / 10;
+    let clock = now();
+    for _ in 0..single {
+        assert_eq!(host::step(&mut block, &mut mem).0, Reply::Done, "{name}: the archive refused a step");
+    }
+    let step = (now() - clock) / single as f64;
+
+    let (budget, end) = if program.answer.is_some() { (u32::MAX, Reply::Stopped) } else { (steps, Reply::Done) };
+    let clock = now();
+    let (reply, rest) = host::run(&mut block, &mut mem, budget - single);
+    let run = (now() - clock) / rest as f64;
+    assert_eq!(reply, end, "{name}: how the archive's run ended");
+
+    set(cpu, &start, &memory);
+    let clock = now();
+    let done = original(cpu, budget);
+    let original = (now() - clock) / done as f64;
+
+    assert_eq!(single + rest, done, "{name}: the steps of the archive and of the original");
+    assert_eq!(State::from_block(&block), Ok(get(cpu)), "{name}: the states after {done} steps");
+    assert!(mem == cpu.bus.mem, "{name}: the memories after {done} steps");
+    if let Some(answer) = program.answer {
+        assert_eq!(cpu.d[..2], answer, "{name}: the known answer");
+    }
+    [original, run, step]
+}
+
 #[no_mangle]
 pub extern "C" fn main() -> i32 {
     let number = |i, default| std::env::args().nth(i).map_or(default, |a| a.parse().expect("use: speed [STEPS [TIMES [PROGRAM]]]"));
     let (steps, times): (u32, u32) = (number(1, 2_000_000), number(2, 7));
     let mut cpu = Cpu::new(Bus::new());
-    println!("{steps} steps, best of {times}");
-    println!("{:8} {:>11} {:>11} {:>11} {:>11} {:>11}", "program", "original", "run", "ratio", "step", "ratio");
+    println!("{steps} steps, or to the program's end; best of {times}");
+    println!("{:16} {:>11} {:>11} {:>11} {:>11} {:>11}", "program", "original", "run", "ratio", "step", "ratio");
     let only = std::env::args().nth(3);
-    for (name, bytes) in PROGRAMS {
-        if only.as_ref().is_some_and(|o| o != name) {
+    let zlib = std::env::var("ZLIB").ok().and_then(|folder| programs::zlib(&folder));
+    for program in programs::kept().into_iter().chain(zlib) {
+        if only.as_ref().is_some_and(|o| o != program.name) {
             continue;
         }
-        let (start, memory) = load(bytes);
         let mut best = [f64::INFINITY; 3];
         for _ in 0..times {
-            let single = steps / 10;
-            let mut block = start.to_block();
-            let mut mem = memory.clone();
-            let clock = now();
-            for _ in 0..single {
-                assert_eq!(host::step(&mut block, &mut mem).0, Reply::Done, "{name}: the archive refused a step");
-            }
-            best[2] = best[2].min((now() - clock) / single as f64);
-            let clock = now();
-            let answer = host::run(&mut block, &mut mem, steps - single);
-            best[1] = best[1].min((now() - clock) / (steps - single) as f64);
-            assert_eq!(answer, (Reply::Done, steps - single), "{name}: the archive stopped");
-
-            set(&mut cpu, &start, &memory);
-            let clock = now();
-            let done = original(&mut cpu, steps);
-            best[0] = best[0].min((now() - clock) / steps as f64);
-            assert_eq!(done, steps, "{name}: the original stopped");
-
-            assert_eq!(State::from_block(&block), Ok(get(&cpu)), "{name}: the states after {steps} steps");
-            assert!(mem == cpu.bus.mem, "{name}: the memories after {steps} steps");
+            let took = turn(&mut cpu, &program, steps);
+            best = std::array::from_fn(|i| best[i].min(took[i]));
         }
         let [original, run, step] = best;
-        println!("{name:8} {original:11.2} {run:11.2} {:11.2} {step:11.2} {:11.3}", original / run, original / step);
+        println!("{:16} {original:11.2} {run:11.2} {:11.2} {step:11.2} {:11.3}", program.name, original / run, original / step);
     }
     0
 }

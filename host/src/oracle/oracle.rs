@@ -93,12 +93,17 @@ impl Oracle {
         false
     }
 
-    fn one(&mut self, s: &State, mem: &mut [u8]) -> Result<(State, u8), Reply> {
-        if s.stopped {
-            return Err(Reply::Stopped);
+    /// Why a step is not tried: 3, then 5.
+    fn refusal(s: &State, mem: &[u8]) -> Option<Reply> {
+        match s.stopped {
+            true => Some(Reply::Stopped),
+            false => Self::not_carried(s, mem).then_some(Reply::NotCarried),
         }
-        if Self::not_carried(s, mem) {
-            return Err(Reply::NotCarried);
+    }
+
+    fn one(&mut self, s: &State, mem: &mut [u8]) -> Result<(State, u8), Reply> {
+        if let Some(r) = Self::refusal(s, mem) {
+            return Err(r);
         }
         self.cpu.exc_counts = [0; 256];
         let after = self.perform(s, mem, |c| c.execute())?;
@@ -116,11 +121,39 @@ impl Oracle {
         }
     }
 
+    /// A run over one copy of the memory. None where it meets an access that is not inside: that step may have stored.
+    fn straight_run(&mut self, s: &State, mem: &mut [u8], budget: u32) -> Option<(State, Reply, u32)> {
+        self.set(s);
+        self.cpu.bus.mem.clear();
+        self.cpu.bus.mem.extend_from_slice(mem);
+        let (mut now, mut done, mut answer) = (s.clone(), 0, Reply::Done);
+        while done < budget {
+            if let Some(r) = Self::refusal(&now, &self.cpu.bus.mem) {
+                answer = r;
+                break;
+            }
+            self.cpu.op_pc = now.pc;
+            self.cpu.execute();
+            if self.cpu.bus.outside {
+                return None;
+            }
+            now = self.get();
+            done += 1;
+        }
+        mem.copy_from_slice(&self.cpu.bus.mem);
+        Some((now, answer, done))
+    }
+
+    /// Straight where it can be; else step by step, each over a copy of the memory, so that a refused one changes nothing.
     pub fn run(&mut self, block: &mut [u8], mem: &mut [u8], budget: u32) -> (Reply, u64) {
         let mut s = match Self::opened(block, mem) {
             Ok(s) => s,
             Err(r) => return (r, 0),
         };
+        if let Some((after, answer, done)) = self.straight_run(&s, mem, budget) {
+            block.copy_from_slice(&after.to_block());
+            return (answer, done as u64);
+        }
         let mut done = 0;
         let mut answer = Reply::Done;
         while done < budget {
