@@ -32,7 +32,7 @@ use Rattle.manual.specs.Word.{plus, signExtended}
 use Rattle.manual.specs.Bits.{logic, bitOf, withBit, changedBit}
 use Rattle.manual.specs.Flags.{moveCodes, sumCodes, sumOrDifference}
 use Rattle.manual.specs.Fields.{bits, upper, upperMode, mode, register, sizeField, byteOrWord, bitOperator, lowByte, lowFour, accField, extField}
-use Rattle.manual.specs.Registers.{dataOf, addressOf, noWrite, writeData}
+use Rattle.manual.specs.Registers.{dataOf, addressOf, noWrite}
 use Rattle.word.specs.WordLaws.{plus-below}
 use Rattle.manual.specs.Memory.{Memory, storageOf, access, firstFault, found, load, numberAt}
 use Rattle.manual.specs.Address.{operand, extension, source, locate, value, control, destination, destinationOf}
@@ -539,7 +539,7 @@ module _ (g : List ℕ) (at sr : ℕ) (m : Memory) (op : ℕ) where
   unfolding l8.divW
   divide-words signs =
       let q : Quotient = l8.wordDivided signs (dataOf g (upper op)) (eff.operandValue g at sr m op (plus at 2) Word) in
-      source-only at sr m g (plus at 2) op Word _ _ (divide-does (plus at 2) Word q (writeData (upper op) (l8.remainderAndQuotient q)))
+      source-only at sr m g (plus at 2) op Word _ _ (divide-does (plus at 2) Word q _)
 
   pub line8-made : (n : ℕ) → Makes (acc.reads8 g at m op n) (eff.effects8 g at sr m op n) (l8.line8 n g at sr m op)
   unfolding acc.reads8 eff.effects8 l8.line8

@@ -1,6 +1,6 @@
 -- Every instruction's numbers are longs, line by line, where the registers and the word's address are, MASK and MACSR are, and memory
 -- holds bytes. Assumes nothing.
-use Prim.Native.Nat.{ℕ, _%_, _<_}
+use Prim.Native.Nat.{ℕ, _+_, _*_, _%_, _<_}
 use mathlib.Core.Bool.{Bool, true, false, cond}
 use mathlib.Core.List.{List}
 use native.Mathlib.Omega.{arith}
@@ -620,8 +620,8 @@ module _ (g : List ℕ) (all : Longs g) (at : ℕ) (here : IsLong at) (sr : ℕ)
   lineC-fits n =
       row-fits (multiply-words false & multiply-words true & logic-to-data And & logic-to-place And & end) (placeIn (firstRow 0xC) n)
 
-  both-words : (q : Quotient) → IsLong (writeData (upper op) (l8.remainderAndQuotient q) .value)
-  unfolding l8.remainderAndQuotient writeData
+  both-words : (q : Quotient) → IsLong (writeData (upper op) (q .remainder % 0x1_0000 * 0x1_0000 + q .quotient % 0x1_0000) .value)
+  unfolding writeData
   both-words q = fit.two-words-long (q .remainder) (q .quotient)
 
   divide-words : (signs : Bool) → FitsLong (l8.divW signs g at sr m op)

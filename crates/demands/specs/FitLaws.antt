@@ -187,8 +187,8 @@ signed-quotient-long a b =
     none-fits)
 
 -- one word above another
-pub two-words-long : (high low : ℕ) → IsLong (cut Word high * 0x1_0000 + cut Word low)
-two-words-long high low = omega (arith, cut-below Word high, cut-below Word low)
+pub two-words-long : (high low : ℕ) → IsLong (high % 0x1_0000 * 0x1_0000 + low % 0x1_0000)
+two-words-long high low = omega arith
 
 pub left-long : (v n : ℕ) → IsLong (shiftedLeft v n .value)
 unfolding shiftedLeft
