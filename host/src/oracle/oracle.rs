@@ -5,6 +5,11 @@ use crate::bus::Bus;
 use crate::cpu::Cpu;
 use host::{Reply, State, MEMORY_LIMIT};
 
+/// MOVEC, which answers 5 whatever follows it.
+pub fn never_carried(op: u16) -> bool {
+    op == 0x4E7A || op == 0x4E7B
+}
+
 pub struct Oracle {
     cpu: Cpu,
 }
@@ -82,7 +87,7 @@ impl Oracle {
             mem.get(at..at + 2).map(|b| u16::from_be_bytes([b[0], b[1]]))
         };
         let Some(op) = word(s.pc) else { return false };
-        if op >> 12 == 8 || op == 0x4E7A || op == 0x4E7B {
+        if never_carried(op) {
             return true;
         }
         if op & 0xF100 == 0xA000 {
