@@ -48,70 +48,81 @@ struct Source {
     register: u16,
 }
 
-fn any_source(r: &mut Random) -> Source {
-    Source { mode: r.below(12) as u16, register: r.below(8) as u16 }
+impl Source {
+    fn any(r: &mut Random) -> Source {
+        Source { mode: r.below(12) as u16, register: r.below(8) as u16 }
+    }
+
+    /// A data register that is not the source's.
+    fn index(self) -> u16 {
+        (self.register + 7) % 8
+    }
+
+    /// Another one.
+    fn destination(self, r: &mut Random) -> u16 {
+        (self.register + 1 + r.below(6) as u16) % 8
+    }
+
+    fn bits(self) -> u16 {
+        if self.mode < 7 { self.mode << 3 | self.register } else { 0x38 | self.mode - 7 }
+    }
 }
 
-/// The operand bits, and the extension words, of a source that holds `value`. `at` is its place in memory, `code` that of the
-/// first extension word, and the data register `index` is free.
-fn placed(r: &mut Random, s: &mut State, from: Source, value: u32, bytes: u32, at: u32, code: u32, index: u16) -> (u16, Vec<u16>) {
-    let (n, near) = (from.register as usize, r.below(256) as u16);
+/// A divisor of 2 or 4 bytes, and where it lies in memory.
+struct Divisor {
+    value: u32,
+    bytes: u32,
+    at: u32,
+}
+
+/// Makes a source hold a divisor, and gives its extension words, the first of which stands at `code`.
+fn placed(r: &mut Random, s: &mut State, from: Source, d: &Divisor, code: u32) -> Vec<u16> {
+    let (n, index, near) = (from.register as usize, from.index(), r.below(256) as u16);
     let displacement = near as u8 as i8 as u32;
+    let base = d.at.wrapping_sub(displacement);
     let indexed = index << 12 | 0x0800 | near;
-    let words = match from.mode {
-        0 => {
-            s.d[n] = value;
-            vec![]
-        }
-        1 | 2 | 3 | 4 => {
-            s.a[n] = [value, at, at, at + bytes][from.mode as usize - 1];
-            vec![]
-        }
-        5 => {
-            s.a[n] = at.wrapping_sub(displacement);
-            vec![displacement as u16]
-        }
-        6 => {
-            s.a[n] = at.wrapping_sub(displacement).wrapping_sub(s.d[index as usize]);
-            vec![indexed]
-        }
-        7 => vec![at as u16],
-        8 => vec![0, at as u16],
-        9 => vec![at.wrapping_sub(code) as u16],
-        10 => {
-            s.d[index as usize] = at.wrapping_sub(displacement).wrapping_sub(code);
-            vec![indexed]
-        }
-        _ if bytes == 4 => vec![(value >> 16) as u16, value as u16],
-        _ => vec![value as u16],
-    };
-    let bits = if from.mode < 7 { from.mode << 3 | from.register } else { 0x38 | from.mode - 7 };
-    (bits, words)
+    match from.mode {
+        0 => s.d[n] = d.value,
+        1 => s.a[n] = d.value,
+        2 | 3 => s.a[n] = d.at,
+        4 => s.a[n] = d.at + d.bytes,
+        5 => s.a[n] = base,
+        6 => s.a[n] = base.wrapping_sub(s.d[index as usize]),
+        10 => s.d[index as usize] = base.wrapping_sub(code),
+        _ => {}
+    }
+    match from.mode {
+        0..=4 => vec![],
+        5 => vec![displacement as u16],
+        6 | 10 => vec![indexed],
+        7 => vec![d.at as u16],
+        8 => vec![0, d.at as u16],
+        9 => vec![d.at.wrapping_sub(code) as u16],
+        _ if d.bytes == 4 => vec![(d.value >> 16) as u16, d.value as u16],
+        _ => vec![d.value as u16],
+    }
 }
 
 /// A divide of Dn, which is the register `dn`, or where there is none another one than the source's. A word's divisor in a register
-/// has the upper half of `divisor` above it.
-fn divide(r: &mut Random, k: Kind, dividend: u32, divisor: u32, from: Source, dn: Option<u16>) -> (State, Vec<u8>) {
+/// has the upper half of `value` above it.
+fn divide(r: &mut Random, k: Kind, dividend: u32, value: u32, from: Source, dn: Option<u16>) -> (State, Vec<u8>) {
     let supervisor = r.of_100(50);
     let mut s = state(r, supervisor);
     s.pc = 0x100 + 2 * r.below(64);
     let mut mem = memory(r, &s, LENGTH);
-    let index = (from.register + 7) % 8;
-    let dn = dn.unwrap_or((from.register + 1 + r.below(6) as u16) % 8);
-    let at = 0x800 + r.below(0x400);
+    let dn = dn.unwrap_or(from.destination(r));
+    let d = Divisor { value, bytes: if k.long { 4 } else { 2 }, at: 0x800 + r.below(0x400) };
+    put(&mut mem, d.at, &value.to_be_bytes()[4 - d.bytes as usize..]);
     s.d[dn as usize] = dividend;
-    let (bytes, mut words) = if k.long {
+    let signed = k.signed as u16;
+    let mut words = if k.long {
         let other = if k.remainder { 1 + r.below(7) as u16 } else { 0 };
-        put(&mut mem, at, &divisor.to_be_bytes());
-        (4, vec![0x4C40, dn << 12 | (k.signed as u16) << 11 | (dn + other) % 8])
+        vec![0x4C40 | from.bits(), dn << 12 | signed << 11 | (dn + other) % 8]
     } else {
-        put(&mut mem, at, &(divisor as u16).to_be_bytes());
-        (2, vec![0x80C0 | dn << 9 | (k.signed as u16) << 8])
+        vec![0x80C0 | dn << 9 | signed << 8 | from.bits()]
     };
     let code = s.pc + 2 * words.len() as u32;
-    let (bits, more) = placed(r, &mut s, from, divisor, bytes, at, code, index);
-    words[0] |= bits;
-    words.extend(more);
+    words.extend(placed(r, &mut s, from, &d, code));
     for (i, w) in words.iter().enumerate() {
         put(&mut mem, s.pc + 2 * i as u32, &w.to_be_bytes());
     }
@@ -146,7 +157,7 @@ pub fn each(r: &mut Random, mut check: impl FnMut(State, Vec<u8>)) {
     for k in KINDS {
         for dividend in EDGES {
             for divisor in EDGES {
-                let from = any_source(r);
+                let from = Source::any(r);
                 ask(r, k, dividend, divisor, from, None, None);
             }
             // One register is both.
@@ -156,7 +167,7 @@ pub fn each(r: &mut Random, mut check: impl FnMut(State, Vec<u8>)) {
         // All condition codes before a quotient, a negative one, 0, an overflow of either sign and a divide by zero.
         for flags in 0..32 {
             for (dividend, divisor) in [(7, 2), (0xFFFF_FFF9, 2), (0xFFFF, 1), (1, 2), (0x1_0000, 1), (0x8000_0000, 0xFFFF_FFFF), (7, 0)] {
-                let from = any_source(r);
+                let from = Source::any(r);
                 ask(r, k, dividend, divisor, from, None, Some(flags));
             }
         }
@@ -170,7 +181,7 @@ pub fn each(r: &mut Random, mut check: impl FnMut(State, Vec<u8>)) {
     }
     for (dividend, divisor) in at_the_limits() {
         for k in WORDS {
-            let (from, upper) = (any_source(r), (r.word() as u32) << 16);
+            let (from, upper) = (Source::any(r), (r.word() as u32) << 16);
             ask(r, k, dividend, divisor & 0xFFFF | upper, from, None, None);
         }
     }
