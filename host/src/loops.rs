@@ -58,7 +58,7 @@ fn with(op: u16, o: Operand) -> Vec<u16> {
 fn instruction(r: &mut Random) -> Vec<u16> {
     let dn = r.below(7) as u16;
     let quick = (r.below(8) as u16) << 9;
-    match r.below(40) {
+    match r.below(41) {
         0..=3 => {
             let (line, bytes) = r.pick(&[(0x1000u16, 1u32), (0x2000, 4), (0x2000, 4), (0x3000, 2)]);
             let (from, to) = (source(r, bytes), place(r));
@@ -68,9 +68,9 @@ fn instruction(r: &mut Random) -> Vec<u16> {
             words
         }
         4 => with(r.pick(&[0x2A40u16, 0x3A40]), source(r, 4)),
-        5..=8 => with(r.pick(&[0xD080u16, 0x9080, 0xB080, 0xC080]) | dn << 9, source(r, 4)),
+        5..=8 => with(r.pick(&[0xD080u16, 0x9080, 0xB080, 0xC080, 0x8080]) | dn << 9, source(r, 4)),
         9 => with(r.pick(&[0xDBC0u16, 0x9BC0, 0xBBC0]), source(r, 4)),
-        10 => with(0xB180 | dn << 9, place(r)),
+        10 => with(r.pick(&[0xB180u16, 0x8180]) | dn << 9, place(r)),
         11 => with(r.pick(&[0xD180u16, 0x9180, 0xC180]) | dn << 9, operand(r, 2, 4)),
         12..=14 => with(r.pick(&[0x5080u16, 0x5180]) | quick, place(r)),
         15 => vec![r.pick(&[0x508Du16, 0x518D]) | quick],
@@ -104,6 +104,7 @@ fn instruction(r: &mut Random) -> Vec<u16> {
         36 => vec![0xA000 | dn << 9 | r.word() & 0x80 | r.below(5) as u16 | r.pick(&[0x10, 0x18, 0x20]), 0x0800 | r.word() & 0x7737],
         37 => vec![0xA000 | dn << 9 | r.word() & 0x80 | r.below(7) as u16, 0x0800 | r.word() & 0x0710],
         38 => vec![r.pick(&[0xA1C0u16, 0xA180, 0xA900]) | dn],
+        39 => with(r.pick(&[0x80C0u16, 0x81C0]) | dn << 9, source(r, 2)),
         _ => vec![r.pick(&[0x4E71u16, 0x4E40, 0x51FC, 0x4AC0])],
     }
 }
@@ -136,7 +137,7 @@ pub fn mixed(r: &mut Random) -> (State, Vec<u8>) {
     words.push(0x5387);
     let turn = words.len() as u16;
     words.extend([0x6600, 0u16.wrapping_sub(2 * turn + 2)]);
-    words.push(r.pick(&[0x4AC8, 0x8000, 0x4E7A]));
+    words.push(r.pick(&[0x4AC8, 0x4E7A, 0x4E7B]));
     words[call as usize + 1] = 2 * (words.len() as u16 - call) - 2;
     for _ in 0..r.below(4) {
         words.extend(instruction(r));

@@ -18,6 +18,8 @@ mod fast;
 mod jit;
 #[path = "../oracle/oracle.rs"]
 mod oracle;
+#[path = "../divides.rs"]
+mod divides;
 #[path = "../loops.rs"]
 mod loops;
 #[path = "../programs.rs"]
@@ -33,7 +35,7 @@ include!(concat!(env!("OUT_DIR"), "/original.rs"));
 use cases::*;
 use host::{Reply, State, BLOCK, MEMORY_LIMIT};
 use oracle::Oracle;
-use std::collections::BTreeMap;
+use std::collections::{BTreeMap, BTreeSet};
 use std::time::Instant;
 
 // -- the comparison ---------------------------------------------------------------
@@ -49,6 +51,8 @@ struct Compare {
     steps_in_runs: u64,
     /// Which words a step has completed, as user and as supervisor.
     completed: [Vec<bool>; 2],
+    /// Words of DIVU.W and DIVS.W that a step has completed with a quotient, with an overflow and by zero.
+    divided: [BTreeSet<u16>; 3],
     start: Instant,
     said: u64,
 }
@@ -61,6 +65,10 @@ impl Compare {
         *self.replies.entry((family, want.reply.number())).or_insert(0) += 1;
         if let (Call::Step, Reply::Done, Some(op)) = (case.call, want.reply, case.word()) {
             self.completed[(case.block[73] >> 5 & 1) as usize][op as usize] = true;
+            if op & 0xF0C0 == 0x80C0 {
+                let overflow = want.block[74] >> 1 & 1;
+                self.divided[if want.value == 5 { 2 } else { overflow as usize }].insert(op);
+            }
         }
         match case.call {
             Call::Step if want.value != 0 => *self.vectors.entry(want.value).or_insert(0) += 1,
@@ -317,6 +325,8 @@ fn overlaps(c: &mut Compare, r: &mut Random) {
             (0xF000, 11),
             (0x4E73, 8),
             (0x4C40, 5),
+            (0x80C0, 5),
+            (0x81C0, 5),
             (0x4E68, 8),
         ]);
         let (supervisor, near) = (r.of_100(30), r.below(14));
@@ -358,7 +368,7 @@ fn emac(c: &mut Compare, r: &mut Random) {
 /// Register operands at the edges.
 fn edges(c: &mut Compare, r: &mut Random) {
     for _ in 0..16384 {
-        let line = r.pick(&[0u16, 2, 4, 5, 7, 9, 0xB, 0xC, 0xD, 0xE, 0xE]);
+        let line = r.pick(&[0u16, 2, 4, 5, 7, 8, 9, 0xB, 0xC, 0xD, 0xE, 0xE]);
         let mut op = (r.word() & 0x0FFF & !0x38) | line << 12;
         match line {
             4 => op = r.pick(&[0x4C00, 0x4C40, 0x4C40, 0x4080, 0x4480, 0x4680, 0x4C80, 0x49C0, 0x4880, 0x48C0, 0x4840]) | op & 7,
@@ -379,6 +389,14 @@ fn edges(c: &mut Compare, r: &mut Random) {
         }
         c.check("edges", Case::of(Call::Step, &s, mem));
     }
+}
+
+/// Every divide at its edges, as a step and as a run.
+fn divides(c: &mut Compare, r: &mut Random) {
+    divides::each(r, |s, mem| {
+        c.check("divides, run", Case::of(Call::Run(1), &s, mem.clone()));
+        c.check("divides", Case::of(Call::Step, &s, mem));
+    });
 }
 
 fn runs(c: &mut Compare, r: &mut Random) {
@@ -425,17 +443,23 @@ fn long_runs(c: &mut Compare, r: &mut Random) {
         s.other = 0x700;
         s.vbr = 0x40;
         let mut mem = memory(r, &s, LENGTH);
+        // A divide by zero comes back.
+        put(&mut mem, s.vbr + 4 * 5, &0x20u32.to_be_bytes());
+        put(&mut mem, 0x20, &0x4E73u16.to_be_bytes());
         // Words on registers, then SUBQ.L #1,D7, BNE to the first, and a word that ends the run.
         let n = 1 + r.below(12);
         for k in 0..n {
-            let op = r.pick(&[0xD080u16, 0x9080, 0xC080, 0xB180, 0xE188, 0xE0A0, 0x5080, 0x7100, 0x7180, 0xC0C0, 0x4480, 0x4840, 0x2000]);
+            let op = r.pick(&[
+                0xD080u16, 0x9080, 0xC080, 0xB180, 0xE188, 0xE0A0, 0x5080, 0x7100, 0x7180, 0xC0C0, 0x4480, 0x4840, 0x2000, 0x8080, 0x8180, 0x80C0,
+                0x81C0,
+            ]);
             let op = if op >> 8 & 0x0E == 0 { op | (r.below(7) as u16) << 9 } else { op };
             put(&mut mem, s.pc + 2 * k, &(op | r.below(7) as u16).to_be_bytes());
         }
         let end = s.pc + 2 * n;
         put(&mut mem, end, &0x5387u16.to_be_bytes());
         put(&mut mem, end + 2, &(0x6600 | (0u32.wrapping_sub(2 * n + 4) & 0xFF) as u16).to_be_bytes());
-        put(&mut mem, end + 4, &r.pick(&[0x4AC8u16, 0x8000, 0x4E7A]).to_be_bytes());
+        put(&mut mem, end + 4, &r.pick(&[0x4AC8u16, 0x4E7A, 0x4E7B]).to_be_bytes());
         // A core that has stopped takes the largest budget: any other could run on where the two differ.
         s.stopped = i % 16 == 0;
         let budget = if s.stopped { u32::MAX } else if i % 2 == 0 { 20_000 } else { r.below(800) };
@@ -734,6 +758,7 @@ pub extern "C" fn main() -> i32 {
         vectors: BTreeMap::new(),
         steps_in_runs: 0,
         completed: [vec![false; 0x10000], vec![false; 0x10000]],
+        divided: Default::default(),
         start: Instant::now(),
         said: 0,
     };
@@ -748,6 +773,7 @@ pub extern "C" fn main() -> i32 {
         overlaps(&mut c, &mut r);
         emac(&mut c, &mut r);
         edges(&mut c, &mut r);
+        divides(&mut c, &mut r);
         runs(&mut c, &mut r);
         long_runs(&mut c, &mut r);
         mixed_loops(&mut c, &mut r);
@@ -765,7 +791,10 @@ pub extern "C" fn main() -> i32 {
     let vectors: Vec<String> = c.vectors.iter().map(|(v, n)| format!("{v}: {n}")).collect();
     println!("vectors entered by steps: {}; steps done in runs: {}", vectors.join(", "), c.steps_in_runs);
     let [user, supervisor] = [0, 1].map(|i| c.completed[i].iter().filter(|&&b| b).count());
-    println!("words completed at least once: {user} as user, {supervisor} as supervisor, of 61438 that do not answer 5");
+    let carried = (0..=0xFFFF).filter(|&op| !oracle::never_carried(op)).count();
+    println!("words completed at least once: {user} as user, {supervisor} as supervisor, of {carried} that do not always answer 5");
+    let [quotient, overflow, zero] = [0, 1, 2].map(|i| c.divided[i].len());
+    println!("words of DIVU.W and DIVS.W completed with a quotient: {quotient}, with an overflow: {overflow}, by zero: {zero}, of 1024");
     if c.differ > 0 {
         println!("differing, by call, word and the two replies:");
         for (key, (n, _)) in c.groups.iter().take(60) {

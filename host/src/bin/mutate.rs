@@ -11,10 +11,10 @@ mod random;
 use random::Random;
 
 /// Functions that no compared call reaches: the original's loops, hooks and compiled code, and what is not carried.
-const OUTSIDE: [&str; 25] = [
+const OUTSIDE: [&str; 23] = [
     "new", "set_hook", "hooked", "strict_fault", "icount", "run", "run_block", "run_compiled", "jit_async", "jit_stats", "compile_block",
-    "run_ops_slice", "run_ops", "run_ops_loop", "step", "movec_write", "cache_sync", "movec_read", "line8", "div_w", "mac_word",
-    "acc_phys", "acc_get", "default", "fmt",
+    "run_ops_slice", "run_ops", "run_ops_loop", "step", "movec_write", "cache_sync", "movec_read", "mac_word", "acc_phys",
+    "acc_get", "default", "fmt",
 ];
 
 const SWAPS: [(&str, &str); 24] = [

@@ -322,7 +322,7 @@ impl Vectors {
                 *w = tame(&mut self.r);
             }
             if i % 5 == 0 {
-                words[(i / 5 % 7) as usize] = self.r.pick(&[0x4AC8, 0x4E72, 0x8000, 0x4E40]);
+                words[(i / 5 % 7) as usize] = self.r.pick(&[0x4AC8, 0x4E72, 0x4E7B, 0x4E40]);
             }
             for (k, w) in words.iter().enumerate() {
                 put(&mut mem, s.pc + 2 * k as u32, &w.to_be_bytes());

@@ -5,6 +5,11 @@ use crate::bus::Bus;
 use crate::cpu::Cpu;
 use host::{Reply, State, MEMORY_LIMIT};
 
+/// MOVEC, which answers 5 whatever follows it.
+pub fn never_carried(op: u16) -> bool {
+    op == 0x4E7A || op == 0x4E7B
+}
+
 pub struct Oracle {
     cpu: Cpu,
 }
@@ -59,19 +64,20 @@ impl Oracle {
         }
     }
 
-    /// Do `f` on the original with this state and memory: the state after it, or, where an access was
-    /// not inside, reply 4 and the memory as it was.
-    fn perform(&mut self, s: &State, mem: &mut [u8], f: impl FnOnce(&mut Cpu)) -> Result<State, Reply> {
+    /// Gives the original a memory.
+    fn load(&mut self, mem: &[u8]) {
+        self.cpu.bus.mem.clear();
+        self.cpu.bus.mem.extend_from_slice(mem);
+    }
+
+    /// Do `f` on the original with this state and the memory that it has: the state after it, or, where an
+    /// access was not inside, reply 4. Other stores were then done, and the memory is of no use.
+    fn perform(&mut self, s: &State, f: impl FnOnce(&mut Cpu)) -> Result<State, Reply> {
         self.set(s);
-        let mut own = std::mem::take(&mut self.cpu.bus.mem);
-        own.clear();
-        own.extend_from_slice(mem);
-        self.cpu.bus.mem = own;
         f(&mut self.cpu);
         if self.cpu.bus.outside {
             return Err(Reply::Outside);
         }
-        mem.copy_from_slice(&self.cpu.bus.mem);
         Ok(self.get())
     }
 
@@ -82,7 +88,7 @@ impl Oracle {
             mem.get(at..at + 2).map(|b| u16::from_be_bytes([b[0], b[1]]))
         };
         let Some(op) = word(s.pc) else { return false };
-        if op >> 12 == 8 || op == 0x4E7A || op == 0x4E7B {
+        if never_carried(op) {
             return true;
         }
         if op & 0xF100 == 0xA000 {
@@ -93,27 +99,29 @@ impl Oracle {
         false
     }
 
-    /// Why a step is not tried: 3, then 5.
-    fn refusal(s: &State, mem: &[u8]) -> Option<Reply> {
-        match s.stopped {
-            true => Some(Reply::Stopped),
-            false => Self::not_carried(s, mem).then_some(Reply::NotCarried),
+    /// A step on the memory that the original has.
+    fn one(&mut self, s: &State) -> Result<(State, u8), Reply> {
+        if s.stopped {
+            return Err(Reply::Stopped);
         }
-    }
-
-    fn one(&mut self, s: &State, mem: &mut [u8]) -> Result<(State, u8), Reply> {
-        if let Some(r) = Self::refusal(s, mem) {
-            return Err(r);
+        if Self::not_carried(s, &self.cpu.bus.mem) {
+            return Err(Reply::NotCarried);
         }
         self.cpu.exc_counts = [0; 256];
-        let after = self.perform(s, mem, |c| c.execute())?;
+        let after = self.perform(s, |c| c.execute())?;
         let entered = self.cpu.exc_counts.iter().position(|&n| n != 0).unwrap_or(0);
         Ok((after, entered as u8))
     }
 
     pub fn step(&mut self, block: &mut [u8], mem: &mut [u8]) -> (Reply, u64) {
-        match Self::opened(block, mem).and_then(|s| self.one(&s, mem)) {
+        let opened = Self::opened(block, mem);
+        let answer = opened.and_then(|s| {
+            self.load(mem);
+            self.one(&s)
+        });
+        match answer {
             Ok((s, vector)) => {
+                mem.copy_from_slice(&self.cpu.bus.mem);
                 block.copy_from_slice(&s.to_block());
                 (Reply::Done, vector as u64)
             }
@@ -121,53 +129,32 @@ impl Oracle {
         }
     }
 
-    /// A run over one copy of the memory. None where it meets an access that is not inside: that step may have stored.
-    fn straight_run(&mut self, s: &State, mem: &mut [u8], budget: u32) -> Option<(State, Reply, u32)> {
-        self.set(s);
-        self.cpu.bus.mem.clear();
-        self.cpu.bus.mem.extend_from_slice(mem);
-        let (mut now, mut done, mut answer) = (s.clone(), 0, Reply::Done);
-        while done < budget {
-            if let Some(r) = Self::refusal(&now, &self.cpu.bus.mem) {
-                answer = r;
-                break;
-            }
-            self.cpu.op_pc = now.pc;
-            self.cpu.execute();
-            if self.cpu.bus.outside {
-                return None;
-            }
-            now = self.get();
-            done += 1;
-        }
-        mem.copy_from_slice(&self.cpu.bus.mem);
-        Some((now, answer, done))
-    }
-
-    /// Straight where it can be; else step by step, each over a copy of the memory, so that a refused one changes nothing.
     pub fn run(&mut self, block: &mut [u8], mem: &mut [u8], budget: u32) -> (Reply, u64) {
-        let mut s = match Self::opened(block, mem) {
+        let s = match Self::opened(block, mem) {
             Ok(s) => s,
             Err(r) => return (r, 0),
         };
-        if let Some((after, answer, done)) = self.straight_run(&s, mem, budget) {
-            block.copy_from_slice(&after.to_block());
-            return (answer, done as u64);
+        let (mut after, done, answer) = self.steps(&s, mem, budget);
+        if answer == Reply::Outside {
+            // For the memory: those that were completed, once more.
+            after = self.steps(&s, mem, done).0;
         }
-        let mut done = 0;
-        let mut answer = Reply::Done;
-        while done < budget {
-            match self.one(&s, mem) {
-                Ok((after, _)) => s = after,
-                Err(r) => {
-                    answer = r;
-                    break;
-                }
-            }
-            done += 1;
-        }
-        block.copy_from_slice(&s.to_block());
+        mem.copy_from_slice(&self.cpu.bus.mem);
+        block.copy_from_slice(&after.to_block());
         (answer, done as u64)
+    }
+
+    /// Steps until one is refused: the state before that, how many were done, and the refusal.
+    fn steps(&mut self, s: &State, mem: &[u8], budget: u32) -> (State, u32, Reply) {
+        self.load(mem);
+        let mut s = s.clone();
+        for done in 0..budget {
+            match self.one(&s) {
+                Ok((after, _)) => s = after,
+                Err(r) => return (s, done, r),
+            }
+        }
+        (s, budget, Reply::Done)
     }
 
     /// A call that is not a step: `f` on the original, or its refusal.
@@ -177,10 +164,12 @@ impl Oracle {
             Ok(s) => s,
             Err(r) => return (r, 0),
         };
-        let after = self.perform(&before, mem, |c| refusal = f(c));
+        self.load(mem);
+        let after = self.perform(&before, |c| refusal = f(c));
         match (refusal, after) {
             (Some(r), _) | (None, Err(r)) => (r, 0),
             (None, Ok(s)) => {
+                mem.copy_from_slice(&self.cpu.bus.mem);
                 block.copy_from_slice(&s.to_block());
                 (Reply::Done, 0)
             }
