@@ -5,7 +5,8 @@ use Rattle.manual.specs.declared.{Size.the-variants.Word, Quotient.Quotient, Ch
 use Rattle.manual.specs.{Word.plus, Divide.wordQuotient, Divide.signedWordQuotient, Registers.dataOf, Registers.writeData, Change.readingSource, Memory.Memory, Fields.upper}
 use Rattle.instructions.specs.{Rows.firstRow, Rows.byRow, Line4.dividing, LineB.logicToPlace, LineC.logicToData}
 
--- DIVS.W, DIVU.W <ea>y,Dx: Dx / source → Dx, the remainder in its upper word and the quotient in its lower
+-- DIVS.W, DIVU.W <ea>y,Dx: Dx / source → Dx, the remainder in its upper word and the quotient in its lower.
+-- N, Z of the quotient; overflow, C and X, and a source of 0, as in DIVS.L (`dividing`)
 unfoldable pub wordDivided : Bool → ℕ → ℕ → Quotient
 wordDivided signs d v = cond signs (signedWordQuotient d v) (wordQuotient d v)
 
