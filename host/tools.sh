@@ -24,6 +24,8 @@ find_rust() {
     [ -e /usr/lib/x86_64-linux-gnu/libc.a ] || [ -e /usr/x86_64-linux-gnu/lib/libc.a ] || lacks "there is no C library for x86-64: install libc6-dev:amd64"
     command -v rt >/dev/null || lacks "rt, whose emulator runs programs for x86-64, is not on the PATH"
     emulator=$(cd "$(dirname "$(rt doc)")/.." && pwd)/on/$(uname -m)/toolchain/bin/qemu-x86_64
+    # The C library copies by `rep movsb` where the processor is said to do that fast; the emulator does not.
+    export QEMU_CPU=max,-erms,-fsrm
     [ -x "$emulator" ] || lacks "$emulator, which runs programs for x86-64, is not there"
     rust+=(--target "$target" -C linker=x86_64-linux-gnu-gcc)
 }

@@ -365,7 +365,7 @@ fn emac(c: &mut Compare, r: &mut Random) {
     }
 }
 
-/// Register operands at the edges.
+/// Operands in registers, with edges there.
 fn edges(c: &mut Compare, r: &mut Random) {
     for _ in 0..16384 {
         let line = r.pick(&[0u16, 2, 4, 5, 7, 8, 9, 0xB, 0xC, 0xD, 0xE, 0xE]);
@@ -388,6 +388,24 @@ fn edges(c: &mut Compare, r: &mut Random) {
             put(&mut mem, s.pc.wrapping_add(2), &edge(r).to_be_bytes());
         }
         c.check("edges", Case::of(Call::Step, &s, mem));
+    }
+}
+
+/// The rows that combine Dn and an operand, with edges in Dn and in memory at (An), (An)+ and -(An); each as a step and as a run.
+fn memory_edges(c: &mut Compare, r: &mut Random) {
+    for _ in 0..2048 {
+        let (line, mode) = (r.pick(&[8u16, 9, 0xB, 0xC, 0xD]), r.pick(&[2u16, 3, 4]));
+        let op = line << 12 | r.word() & 0x0FC7 | mode << 3;
+        let supervisor = r.of_100(50);
+        let (mut s, mut mem) = aimed(r, op, supervisor);
+        s.d = std::array::from_fn(|_| edge(r));
+        let place = 0x200 + 4 * r.below(0x300);
+        s.a[(op & 7) as usize] = place;
+        put(&mut mem, place.wrapping_sub(4), &edge(r).to_be_bytes());
+        put(&mut mem, place, &edge(r).to_be_bytes());
+        write_code(r, &mut mem, s.pc, op);
+        c.check("memory at the edges", Case::of(Call::Run(1), &s, mem.clone()));
+        c.check("memory at the edges", Case::of(Call::Step, &s, mem));
     }
 }
 
@@ -773,6 +791,7 @@ pub extern "C" fn main() -> i32 {
         overlaps(&mut c, &mut r);
         emac(&mut c, &mut r);
         edges(&mut c, &mut r);
+        memory_edges(&mut c, &mut r);
         divides(&mut c, &mut r);
         runs(&mut c, &mut r);
         long_runs(&mut c, &mut r);
