@@ -119,7 +119,7 @@ pub fn in_place(row: u8, g: &mut [u32; 16], pc: u32, sr: u16, mem: &mut [u8], op
             let c = bsr(&*g, pc, sr, &*mem, op);
             stored(g, mem, sr, c)
         }
-        rows::BCC => bcc(g, pc, sr, op),
+        rows::BCC => bcc(g, pc, sr, &*mem, op),
         rows::MOVEQ => changed(g, sr, moveq(pc, sr, op)),
         rows::SUBA_L => suba(g, pc, sr, &*mem, op),
         rows::SUB_DN => sub_to_data(g, pc, sr, &*mem, op),

@@ -122,7 +122,7 @@ returns-26 c = λ other e. rw (c .before .before .before .before .before .before
 
 returns-27 : tie.Need-returns-27
 unfolding ofRow line6 placeIn
-returns-27 c = λ other e. rw (c .before .before .match .keys28) (c .bcc .ensures _)
+returns-27 c = λ other e. rw (c .before .before .before .match .keys28) (c .bcc .ensures)
 
 returns-28 : tie.Need-returns-28
 unfolding ofRow line7 placeIn
@@ -279,6 +279,7 @@ in-place-spec =
     returns-25
     (λ c. search needs)
     returns-26
+    (λ c. search needs)
     returns-27
     returns-28
     (λ c. search needs)
