@@ -33,17 +33,18 @@ pub fn bcc(g: &mut [u32; 16], pc: u32, sr: u16, mem: &[u8], op: u32) -> Effect
     if low == 255 {
         return Effect::Left;
     }
+    let holds = condition(op / 256, sr);
     if low == 0 {
         let d = match load(mem, at, Size::Word) {
             Got::Value(d) => d,
             Got::Fault(_) => return Effect::Left,
         };
-        if condition(op / 256, sr) {
+        if holds {
             return changed(g, sr, jump(sr, plus(at, sign_extended(Size::Word, d))));
         }
         return changed(g, sr, jump(sr, plus(at, 2)));
     }
-    if condition(op / 256, sr) {
+    if holds {
         return changed(g, sr, jump(sr, plus(at, sign_extended(Size::Byte, low))));
     }
     changed(g, sr, jump(sr, plus(at, 0)))
