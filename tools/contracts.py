@@ -30,7 +30,7 @@ KINDS = BOUNDS, EACH, LEFT = "an equation, and bounds", "an equation each", "don
 # of the quick path: the record of what is there afterwards, and what it equals, said of the same answer
 AGREED = {"Effects.after": "Effects.agreed", "Units.afterMac": "Units.agreedMac", "Attempts.whole": "Attempts.agreedWhole"}
 # an answer filled up from a definition equals that definition
-FILLED = {"Near.spotted", "Near.asRead"}
+FILLED = {"Near.spotted", "Near.asRead", "Near.controlledAt"}
 # what a contract of the quick path may be said for all of, types that have values
 ALL = ["Memory"], ["ℕ"], ["Emac"], ["List", "ℕ"]
 # the one hypothesis in a contract: of the registers, of which the function is given one

@@ -88,7 +88,8 @@ fn index(g: &[u32; 16], w: u32) -> u32
     }
 }
 
-fn indexed(g: &[u32; 16], base: u32, w: u32) -> u32
+// The address that a base and a brief extension word name.
+pub fn indexed(g: &[u32; 16], base: u32, w: u32) -> u32
     ensures { λ r. ⌜ r ≡ indexedOf (now (g .entry)) base w ⌝ }
 {
     plus(plus(base, sign_extended(Size::Byte, w)), index(g, w))

@@ -19,10 +19,10 @@ use quick_bodies::flow::jsr;
 use quick_bodies::flow::movem_load;
 use quick_bodies::flow::movem_store;
 use quick_bodies::flow::pea;
-use quick_bodies::logic::and_to_data;
 use quick_bodies::logic::bit_by_immediate;
 use quick_bodies::logic::bit_by_register;
 use quick_bodies::logic::eor_to_data;
+use quick_bodies::logic::logic_to_data;
 use quick_bodies::logic::mul_l;
 use quick_bodies::mac::Summed;
 use quick_bodies::mac::quick_mac;
@@ -43,10 +43,14 @@ use quick_parts::inplace::Effect;
 use quick_parts::inplace::changed;
 use quick_parts::inplace::stored;
 ghost use mathlib.Core.Path.{_≡_};
+ghost use mathlib.Core.Bool.{cond};
 ghost use Prim.Native.Nat.{ℕ};
+ghost use lib.Dec.{eqb};
 ghost use Rattle.manual.specs.Memory.{mapped};
 ghost use Rattle.manual.specs.declared.Emac.{Emac};
 ghost use Rattle.manual.specs.Emac.{emacOf};
+ghost use Rattle.manual.specs.declared.Logic.the-variants.{And, Or};
+ghost use Rattle.instructions.specs.Rows.{rowOf};
 ghost use Rattle.instructions.specs.Step.{ofRow};
 ghost use Rattle.quick_parts.specs.Effects.{after, agreed};
 ghost use Rattle.quick.specs.Attempts.{whole, agreedWhole};
@@ -56,6 +60,17 @@ pub enum Attempt {
     Done(u32, u16),
     Summed(u32, u32),
     Left,
+}
+
+// What AND and OR make of two numbers, by their row. They share one call of their body, so that a compiler puts it there.
+fn logic_of(row: u8) -> Logic
+    ensures { λ l. ⌜ l ≡ cond (eqb row (rowOf 0xC000)) And Or ⌝ }
+{
+    if row == rows::AND_DN {
+        Logic::And
+    } else {
+        Logic::Or
+    }
 }
 
 // The instruction of a row done in place, or left with nothing changed.
@@ -104,14 +119,14 @@ pub fn in_place(row: u8, g: &mut [u32; 16], pc: u32, sr: u16, mem: &mut [u8], op
             let c = bsr(&*g, pc, sr, &*mem, op);
             stored(g, mem, sr, c)
         }
-        rows::BCC => bcc(g, pc, sr, op),
+        rows::BCC => bcc(g, pc, sr, &*mem, op),
         rows::MOVEQ => changed(g, sr, moveq(pc, sr, op)),
         rows::SUBA_L => suba(g, pc, sr, &*mem, op),
         rows::SUB_DN => sub_to_data(g, pc, sr, &*mem, op),
         rows::CMPA_L => cmpa(g, pc, sr, &*mem, op),
         rows::CMP => cmp(g, pc, sr, &*mem, op),
         rows::EOR => eor_to_data(g, pc, sr, op),
-        rows::AND_DN => and_to_data(g, pc, sr, &*mem, op),
+        rows::AND_DN | rows::OR_DN => { logic_to_data(logic_of(row), g, pc, sr, &*mem, op) }
         rows::ADDA_L => adda(g, pc, sr, &*mem, op),
         rows::ADD_DN => add_to_data(g, pc, sr, &*mem, op),
         rows::ASX => changed(g, sr, shift(true, &*g, pc, sr, op)),

@@ -1,4 +1,4 @@
-// Bcc with a byte's displacement, JSR, PEA and MOVEM, done in place.
+// Bcc with a byte's or a word's displacement, JSR, PEA and MOVEM, done in place.
 use address::changes::jump;
 use address::changes::push;
 use manual::Got;
@@ -18,25 +18,33 @@ use word::word::plus;
 use word::word::sign_extended;
 ghost use mathlib.Core.Path.{_≡_};
 ghost use mathlib.Core.Bool.{true, false};
-ghost use Prim.Native.Nat.{ℕ, _+_, _*_, _/_, _%_};
-ghost use Rattle.manual.specs.Memory.{Memory, mapped, storageOf};
+ghost use Prim.Native.Nat.{_+_, _*_, _/_, _%_};
+ghost use Rattle.manual.specs.Memory.{mapped};
 ghost use Rattle.instructions.specs.Line4.{jsr as jsrOf, pea as peaOf, movem};
 ghost use Rattle.instructions.specs.Line6.{bcc as bccOf};
 ghost use Rattle.quick_parts.specs.Effects.{after, agreed};
 
-// Line6.bcc, of a byte
-pub fn bcc(g: &mut [u32; 16], pc: u32, sr: u16, op: u32) -> Effect
-    ensures { λ r. ⌜ ((m : Memory) → after r (now (g .exit)) (storageOf m) ≡ agreed r (bccOf pc sr m op) sr (now (g .entry)) m) ⌝ }
+// Line6.bcc, of a byte and of a word
+pub fn bcc(g: &mut [u32; 16], pc: u32, sr: u16, mem: &[u8], op: u32) -> Effect
+    ensures { λ r. ⌜ after r (now (g .exit)) (now (mem .entry)) ≡ agreed r (bccOf pc sr (mapped (now (mem .entry))) op) sr (now (g .entry)) (mapped (now (mem .entry))) ⌝ }
 {
+    let at = plus(pc, 2);
     let low = op % 256;
-    if low == 0 {
-        return Effect::Left;
-    }
     if low == 255 {
         return Effect::Left;
     }
-    let at = plus(pc, 2);
-    if condition(op / 256, sr) {
+    let holds = condition(op / 256, sr);
+    if low == 0 {
+        let d = match load(mem, at, Size::Word) {
+            Got::Value(d) => d,
+            Got::Fault(_) => return Effect::Left,
+        };
+        if holds {
+            return changed(g, sr, jump(sr, plus(at, sign_extended(Size::Word, d))));
+        }
+        return changed(g, sr, jump(sr, plus(at, 2)));
+    }
+    if holds {
         return changed(g, sr, jump(sr, plus(at, sign_extended(Size::Byte, low))));
     }
     changed(g, sr, jump(sr, plus(at, 0)))

@@ -1,4 +1,4 @@
-// AND, EOR and products of longs and bits of Dn, done in place.
+// AND, OR, EOR and products of longs and bits of Dn, done in place.
 use address::changes::done;
 use line4::single::product;
 use lines0to3::line0::bit_of_data;
@@ -21,16 +21,16 @@ use word::word::plus;
 ghost use mathlib.Core.Path.{_≡_};
 ghost use Prim.Native.Nat.{ℕ, _+_, _*_, _/_, _%_};
 ghost use Rattle.manual.specs.Memory.{Memory, mapped, storageOf};
-ghost use Rattle.manual.specs.declared.Logic.the-variants.{And, Eor};
+ghost use Rattle.manual.specs.declared.Logic.the-variants.{Eor};
 ghost use Rattle.instructions.specs.Line0.{bitByRegister, bitByImmediate};
 ghost use Rattle.instructions.specs.Line4.{mulL};
 ghost use Rattle.instructions.specs.LineB.{logicToPlace};
 ghost use Rattle.instructions.specs.LineC.{logicToData};
 ghost use Rattle.quick_parts.specs.Effects.{after, agreed};
 
-// LineC.logicToData And, of a long
-pub fn and_to_data(g: &mut [u32; 16], pc: u32, sr: u16, mem: &[u8], op: u32) -> Effect
-    ensures { λ r. ⌜ after r (now (g .exit)) (now (mem .entry)) ≡ agreed r (logicToData And (now (g .entry)) pc sr (mapped (now (mem .entry))) op) sr (now (g .entry)) (mapped (now (mem .entry))) ⌝ }
+// LineC.logicToData, of a long
+pub fn logic_to_data(l: Logic, g: &mut [u32; 16], pc: u32, sr: u16, mem: &[u8], op: u32) -> Effect
+    ensures { λ r. ⌜ after r (now (g .exit)) (now (mem .entry)) ≡ agreed r (logicToData l (now (g .entry)) pc sr (mapped (now (mem .entry))) op) sr (now (g .entry)) (mapped (now (mem .entry))) ⌝ }
 {
     if op / 64 % 4 != 2 {
         return Effect::Left;
@@ -39,7 +39,7 @@ pub fn and_to_data(g: &mut [u32; 16], pc: u32, sr: u16, mem: &[u8], op: u32) -> 
         return Effect::Left;
     };
     let old = data(&*g, op / 512 % 8);
-    let r = logic(Logic::And, v, old);
+    let r = logic(l, v, old);
     let codes = long_move_codes(r, sr);
     let whole = merged(Size::Long, old, r);
     changed(

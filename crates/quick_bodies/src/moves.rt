@@ -1,15 +1,14 @@
 // MOVE, MOVEA, LEA and CLR, done in place.
 use address::changes::done;
 use address::changes::store;
-use manual::Got;
 use manual::Size;
-use memory::load;
 use quick_parts::Reading;
 use quick_parts::Spot;
 use quick_parts::inplace::Effect;
 use quick_parts::inplace::changed;
 use quick_parts::inplace::stored;
 use quick_parts::longs::long_move_codes;
+use quick_parts::operands::control_spot;
 use quick_parts::operands::read_long;
 use quick_parts::operands::spot;
 use word::flags::kept_codes;
@@ -73,36 +72,18 @@ pub fn movea(g: &mut [u32; 16], pc: u32, sr: u16, mem: &[u8], op: u32) -> Effect
     )
 }
 
-// Line4.lea, of d16(An) and of an absolute word
+// Line4.lea, of d16(An), of d8(An,Xi) and of absolute addresses
 pub fn lea(g: &mut [u32; 16], pc: u32, sr: u16, mem: &[u8], op: u32) -> Effect
     ensures { λ r. ⌜ after r (now (g .exit)) (now (mem .entry)) ≡ agreed r (leaOf (now (g .entry)) pc sr (mapped (now (mem .entry))) op) sr (now (g .entry)) (mapped (now (mem .entry))) ⌝ }
 {
-    let at = plus(pc, 2);
-    let d = match load(mem, at, Size::Word) {
-        Got::Value(d) => d,
-        Got::Fault(_) => return Effect::Left,
+    let Spot::At(a, next, first) = control_spot(&*g, mem, plus(pc, 2), op) else {
+        return Effect::Left;
     };
-    let offset = sign_extended(Size::Word, d);
-    let next = plus(at, 2);
     let codes = kept_codes(sr);
-    if op / 8 % 8 == 5 {
-        let a = plus(address(&*g, op % 8), offset);
-        return changed(
-            g,
-            sr,
-            done(next, codes, no_write(), write_address(op / 512 % 8, a)),
-        );
-    }
-    if op / 8 % 8 != 7 {
-        return Effect::Left;
-    }
-    if op % 8 != 0 {
-        return Effect::Left;
-    }
     changed(
         g,
         sr,
-        done(next, codes, no_write(), write_address(op / 512 % 8, offset)),
+        done(next, codes, first, write_address(op / 512 % 8, a)),
     )
 }
 

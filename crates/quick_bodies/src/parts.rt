@@ -154,14 +154,12 @@ pub fn part(row: u8, g: &mut [u32; 16], pc: u32, sr: u16, mem: &mut [u8], op: u3
         return Effect::Left;
     };
     match row {
-        rows::MOVE_B => move_part(z, g, sr, mem, op, v, next, first),
-        rows::MOVE_W => move_part(z, g, sr, mem, op, v, next, first),
+        rows::MOVE_B | rows::MOVE_W => { move_part(z, g, sr, mem, op, v, next, first) }
         rows::MOVEA_W => movea(g, sr, op, v, next, first),
         rows::TST => tst(g, sr, op, v, next, first),
         rows::MVS => mvs(g, sr, op, v, next, first),
         rows::MVZ => mvz(g, sr, op, v, next, first),
-        rows::MULU_W => mul_w(false, g, sr, op, v, next, first),
-        rows::MULS_W => mul_w(true, g, sr, op, v, next, first),
+        rows::MULU_W | rows::MULS_W => { mul_w(row == rows::MULS_W, g, sr, op, v, next, first) }
         _ => Effect::Left,
     }
 }

@@ -1,6 +1,7 @@
-// Dn, An, (An), (An)+, -(An) and d16(An); of longs that are read, immediates too.
+// Dn, An, (An), (An)+, -(An) and d16(An); of longs that are read, immediates too; of bytes and words that are read, d8(An,Xi) too.
 use super::Reading;
 use super::Spot;
+use address::operands::indexed;
 use manual::Got;
 use manual::Size;
 use memory::load;
@@ -17,10 +18,11 @@ ghost use mathlib.Core.Path.{_≡_};
 ghost use mathlib.Core.List.{List};
 ghost use Prim.Native.Nat.{ℕ, _+_, _*_, _/_, _%_};
 ghost use Rattle.manual.specs.Memory.{mapped};
+ghost use Rattle.manual.specs.declared.Size.{Size};
 ghost use Rattle.manual.specs.declared.Size.the-variants.{Long};
 ghost use Rattle.manual.specs.Registers.{addressOf};
 ghost use Rattle.manual.specs.Address.{operand as operandOf, source as sourceOf};
-ghost use Rattle.quick_parts.specs.Near.{located, spotted, Readable, asRead};
+ghost use Rattle.quick_parts.specs.Near.{located, spotted, Readable, asRead, controlled, controlledAt};
 
 // Where an operand of modes 2 to 5 is, or that it is far.
 // Of a mode and of register r, which holds a: as it is, or as another operand's move left it.
@@ -59,8 +61,7 @@ fn readable(z: Size, g: &[u32; 16], mem: &[u8], pc: u32, op: u32) -> Spot
 }
 
 // What an operand of a near mode reads, or that it is far.
-// The operand that a word's bits 5 to 0 name.
-pub fn read(z: Size, g: &[u32; 16], mem: &[u8], pc: u32, op: u32) -> Reading
+fn near(z: Size, g: &[u32; 16], mem: &[u8], pc: u32, op: u32) -> Reading
     ensures { λ r. ⌜ asRead r (sourceOf (now (g .entry)) (mapped (now (mem .entry))) pc op z) ≡ sourceOf (now (g .entry)) (mapped (now (mem .entry))) pc op z ⌝ }
 {
     let mode = op / 8 % 8;
@@ -76,9 +77,83 @@ pub fn read(z: Size, g: &[u32; 16], mem: &[u8], pc: u32, op: u32) -> Reading
     }
 }
 
-// The same of a long. Apart, so that a compiler puts it into each body: `read` has one other caller, and is put there.
+// Where d8(An,Xi) is.
+fn indexed_spot(g: &[u32; 16], mem: &[u8], pc: u32, r: u32) -> Spot
+    ensures { λ s. ⌜ ((z : Size) → spotted s (located (now (g .entry)) (mapped (now (mem .entry))) pc (operandOf 6 r) z) ≡ located (now (g .entry)) (mapped (now (mem .entry))) pc (operandOf 6 r) z) ⌝ }
+{
+    match load(mem, pc, Size::Word) {
+        Got::Value(w) => {
+            let b = indexed(g, address(g, r), w);
+            Spot::At(b, plus(pc, 2), no_write())
+        }
+        Got::Fault(_) => Spot::NotNear,
+    }
+}
+
+// What d8(An,Xi) reads.
+fn far(z: Size, g: &[u32; 16], mem: &[u8], pc: u32, op: u32) -> Reading
+    ensures { λ r. ⌜ asRead r (sourceOf (now (g .entry)) (mapped (now (mem .entry))) pc op z) ≡ sourceOf (now (g .entry)) (mapped (now (mem .entry))) pc op z ⌝ }
+{
+    if op / 8 % 8 != 6 {
+        return Reading::NotNear;
+    }
+    let Spot::At(b, next, moved) = indexed_spot(g, mem, pc, op % 8) else {
+        return Reading::NotNear;
+    };
+    match load(mem, b, z) {
+        Got::Value(v) => Reading::Read(v, next, moved),
+        Got::Fault(_) => Reading::NotNear,
+    }
+}
+
+// What an operand of a near mode or d8(An,Xi) reads, or another.
+// The operand that a word's bits 5 to 0 name.
+pub fn read(z: Size, g: &[u32; 16], mem: &[u8], pc: u32, op: u32) -> Reading
+    ensures { λ r. ⌜ asRead r (sourceOf (now (g .entry)) (mapped (now (mem .entry))) pc op z) ≡ sourceOf (now (g .entry)) (mapped (now (mem .entry))) pc op z ⌝ }
+{
+    match near(z, g, mem, pc, op) {
+        Reading::Read(v, next, moved) => Reading::Read(v, next, moved),
+        Reading::NotNear => far(z, g, mem, pc, op),
+    }
+}
+
+// What a long operand of a near mode reads.
+// It has many callers, so it is kept so small that a compiler puts it into each of them; d8(An,Xi) would make it too large.
 pub fn read_long(g: &[u32; 16], mem: &[u8], pc: u32, op: u32) -> Reading
     ensures { λ r. ⌜ asRead r (sourceOf (now (g .entry)) (mapped (now (mem .entry))) pc op Long) ≡ sourceOf (now (g .entry)) (mapped (now (mem .entry))) pc op Long ⌝ }
 {
-    read(Size::Long, g, mem, pc, op)
+    near(Size::Long, g, mem, pc, op)
+}
+
+// Where an absolute operand is.
+fn absolute_spot(mem: &[u8], pc: u32, r: u32) -> Spot
+    ensures { λ s. ⌜ ((g : List ℕ) → controlledAt s (controlled g (mapped (now (mem .entry))) pc (operandOf 7 r)) ≡ controlled g (mapped (now (mem .entry))) pc (operandOf 7 r)) ⌝ }
+{
+    match r {
+        0 => match load(mem, pc, Size::Word) {
+            Got::Value(w) => {
+                let a = sign_extended(Size::Word, w);
+                Spot::At(a, plus(pc, 2), no_write())
+            }
+            Got::Fault(_) => Spot::NotNear,
+        },
+        1 => match load(mem, pc, Size::Long) {
+            Got::Value(a) => Spot::At(a, plus(pc, 4), no_write()),
+            Got::Fault(_) => Spot::NotNear,
+        },
+        _ => Spot::NotNear,
+    }
+}
+
+// Where an operand of d16(An), d8(An,Xi) or an absolute address is, or that it is another.
+// The operand that a word's bits 5 to 0 name. What is there is not read.
+pub fn control_spot(g: &[u32; 16], mem: &[u8], pc: u32, op: u32) -> Spot
+    ensures { λ s. ⌜ controlledAt s (controlled (now (g .entry)) (mapped (now (mem .entry))) pc (operandOf (op / 8 % 8) (op % 8))) ≡ controlled (now (g .entry)) (mapped (now (mem .entry))) pc (operandOf (op / 8 % 8) (op % 8)) ⌝ }
+{
+    match op / 8 % 8 {
+        5 => spot(Size::Long, mem, pc, 5, op % 8, address(g, op % 8)),
+        6 => indexed_spot(g, mem, pc, op % 8),
+        7 => absolute_spot(mem, pc, op % 8),
+        _ => Spot::NotNear,
+    }
 }

@@ -1,11 +1,13 @@
+use mathlib.Core.Logic.{⊎-elim}
 use Rattle.instructions.specs.Step.{ofRow}
-use Rattle.instructions.specs.Rows.{placeIn}
+use Rattle.instructions.specs.Rows.{rowOf, placeIn}
 use Rattle.instructions.specs.Line0.{line0}
 use Rattle.instructions.specs.Moves.{moves}
 use Rattle.instructions.specs.Line4.{line4}
 use Rattle.instructions.specs.Line5.{line5}
 use Rattle.instructions.specs.Line6.{line6}
 use Rattle.instructions.specs.Line7.{line7}
+use Rattle.instructions.specs.Line8.{line8}
 use Rattle.instructions.specs.LineB.{lineB}
 use Rattle.instructions.specs.LineC.{lineC}
 use Rattle.instructions.specs.LineE.{lineE}
@@ -120,7 +122,7 @@ returns-26 c = λ other e. rw (c .before .before .before .before .before .before
 
 returns-27 : tie.Need-returns-27
 unfolding ofRow line6 placeIn
-returns-27 c = λ other e. rw (c .before .before .match .keys28) (c .bcc .ensures _)
+returns-27 c = λ other e. rw (c .before .before .before .match .keys28) (c .bcc .ensures)
 
 returns-28 : tie.Need-returns-28
 unfolding ofRow line7 placeIn
@@ -147,8 +149,13 @@ unfolding ofRow lineB placeIn
 returns-33 c = λ other e. rw (c .before .before .match .keys34) (c .eor-to-data .ensures _)
 
 returns-34 : tie.Need-returns-34
-unfolding ofRow lineC placeIn
-returns-34 c = λ other e. rw (c .before .before .before .match .keys35) (c .and-to-data .ensures)
+unfolding ofRow line8 lineC placeIn rowOf
+returns-34 c = λ other e.
+    let c3 = c .before .before .before in
+    ⊎-elim
+    (λ k. rw k (rw (c3 .logic-of .ensures, k) at (c .logic-to-data .ensures)))
+    (λ k. rw k (rw (c3 .logic-of .ensures, k) at (c .logic-to-data .ensures)))
+    (c3 .before .match .keys35)
 
 returns-35 : tie.Need-returns-35
 unfolding ofRow sums placeIn
@@ -170,6 +177,7 @@ pub in-place-spec : {M : Type 1} → statement M
 in-place-spec =
     tie.close
     (tie.spec
+    (λ c κs. search needs)
     (λ c κs. search needs)
     (λ c κs. search needs)
     (λ c κs. search needs)
@@ -271,6 +279,7 @@ in-place-spec =
     returns-25
     (λ c. search needs)
     returns-26
+    (λ c. search needs)
     returns-27
     returns-28
     (λ c. search needs)
