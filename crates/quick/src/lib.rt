@@ -136,6 +136,8 @@ pub fn in_place(row: u8, g: &mut [u32; 16], pc: u32, sr: u16, mem: &mut [u8], op
 }
 
 // The instruction of a row done in place, MAC too, or left with nothing changed.
+// It has one caller, so a compiler puts it there with all that is below it, up to a size that is nearly reached: a run is slower by
+// half where it stays a call. So the instructions of a step are to be counted after each new arm.
 pub fn quick_step(
     row: u8,
     g: &mut [u32; 16],
