@@ -31,7 +31,8 @@ ghost use Rattle.instructions.specs.Moves.{move as moveOf, movea as moveaOf};
 ghost use Rattle.lines0to3.specs.MoveLaws.{moveTo};
 ghost use Rattle.lines0to3.specs.MoveLines.{moveSize, moveaRow, moveRow, moveLine};
 
-fn move_to(
+// A value put to an operand whose extension words are at pc, the registers being those after another operand's move.
+pub fn move_to(
     z: Size,
     g: &[u32; 16],
     sr: u16,
@@ -49,8 +50,9 @@ fn move_to(
     put(g, next, codes, first, moved(g, o, z), place, z, v)
 }
 
+// The registers after an operand's move.
 // Apart, so that a MOVE to a register makes no room for the copy.
-fn written(g: &[u32; 16], w: Write) -> [u32; 16]
+pub fn written(g: &[u32; 16], w: Write) -> [u32; 16]
     ensures { λ h. ⌜ h ≡ writtenOf w (now (g .entry)) ⌝ }
 {
     let mut after = *g;

@@ -3,6 +3,7 @@ use super::execute::instruction;
 use super::perform::perform;
 use manual::Cpu;
 use manual::Stepped;
+use quick_bodies::far::far;
 use quick_parts::inplace::Effect;
 use quick_parts::inplace::carried_out;
 ghost use mathlib.Core.Path.{_≡_};
@@ -28,6 +29,9 @@ pub(crate) fn plain(
 ) -> Effect
     ensures { λ r. ⌜ after r (now (g .exit)) (now (mem .exit)) ≡ agreed r (ofRow row (now (g .entry)) pc sr other (emacOf macsr mask (now (acc .entry))) (mapped (now (mem .entry))) op) sr (now (g .entry)) (mapped (now (mem .entry))) ⌝ }
 {
+    if let Effect::Done(next, now) = far(row, g, pc, sr, mem, op) {
+        return Effect::Done(next, now);
+    }
     let c = instruction(row, &*g, pc, sr, other, macsr, mask, acc, &*mem, op);
     carried_out(g, mem, sr, c)
 }

@@ -91,7 +91,7 @@ fn indexed_spot(g: &[u32; 16], mem: &[u8], pc: u32, r: u32) -> Spot
 }
 
 // What d8(An,Xi) reads.
-fn far(z: Size, g: &[u32; 16], mem: &[u8], pc: u32, op: u32) -> Reading
+fn read_indexed(z: Size, g: &[u32; 16], mem: &[u8], pc: u32, op: u32) -> Reading
     ensures { λ r. ⌜ asRead r (sourceOf (now (g .entry)) (mapped (now (mem .entry))) pc op z) ≡ sourceOf (now (g .entry)) (mapped (now (mem .entry))) pc op z ⌝ }
 {
     if op / 8 % 8 != 6 {
@@ -113,7 +113,7 @@ pub fn read(z: Size, g: &[u32; 16], mem: &[u8], pc: u32, op: u32) -> Reading
 {
     match near(z, g, mem, pc, op) {
         Reading::Read(v, next, moved) => Reading::Read(v, next, moved),
-        Reading::NotNear => far(z, g, mem, pc, op),
+        Reading::NotNear => read_indexed(z, g, mem, pc, op),
     }
 }
 
@@ -127,7 +127,7 @@ pub fn read_long(g: &[u32; 16], mem: &[u8], pc: u32, op: u32) -> Reading
 
 // Where an absolute operand is.
 fn absolute_spot(mem: &[u8], pc: u32, r: u32) -> Spot
-    ensures { λ s. ⌜ ((g : List ℕ) → controlledAt s (controlled g (mapped (now (mem .entry))) pc (operandOf 7 r)) ≡ controlled g (mapped (now (mem .entry))) pc (operandOf 7 r)) ⌝ }
+    ensures { λ s. ⌜ ((g : List ℕ) → controlledAt s (controlled g (mapped (now (mem .entry))) pc (operandOf 7 r)) ≡ controlled g (mapped (now (mem .entry))) pc (operandOf 7 r)) × ((g : List ℕ) (z : Size) → spotted s (located g (mapped (now (mem .entry))) pc (operandOf 7 r) z) ≡ located g (mapped (now (mem .entry))) pc (operandOf 7 r) z) ⌝ }
 {
     match r {
         0 => match load(mem, pc, Size::Word) {
@@ -155,5 +155,33 @@ pub fn control_spot(g: &[u32; 16], mem: &[u8], pc: u32, op: u32) -> Spot
         6 => indexed_spot(g, mem, pc, op % 8),
         7 => absolute_spot(mem, pc, op % 8),
         _ => Spot::NotNear,
+    }
+}
+
+// Where an operand in memory is: of a near mode, at d8(An,Xi) or at an absolute address; or that it is another.
+fn any_spot(z: Size, g: &[u32; 16], mem: &[u8], pc: u32, op: u32) -> Spot
+    ensures { λ s. ⌜ spotted s (located (now (g .entry)) (mapped (now (mem .entry))) pc (operandOf (op / 8 % 8) (op % 8)) z) ≡ located (now (g .entry)) (mapped (now (mem .entry))) pc (operandOf (op / 8 % 8) (op % 8)) z ⌝ }
+{
+    match op / 8 % 8 {
+        6 => indexed_spot(g, mem, pc, op % 8),
+        7 => absolute_spot(mem, pc, op % 8),
+        _ => spot(z, mem, pc, op / 8 % 8, op % 8, address(g, op % 8)),
+    }
+}
+
+// What a register or an operand at `any_spot` reads, or that it is another.
+// For what is done apart from the loop: the loop's readings are kept small, and have no other callers.
+pub fn read_any(z: Size, g: &[u32; 16], mem: &[u8], pc: u32, op: u32) -> Reading
+    ensures { λ r. ⌜ asRead r (sourceOf (now (g .entry)) (mapped (now (mem .entry))) pc op z) ≡ sourceOf (now (g .entry)) (mapped (now (mem .entry))) pc op z ⌝ }
+{
+    if op / 8 % 8 < 2 {
+        return Reading::Read(cut(z, general(g, op)), plus(pc, 0), no_write());
+    }
+    let Spot::At(b, next, moved) = any_spot(z, g, mem, pc, op) else {
+        return Reading::NotNear;
+    };
+    match load(mem, b, z) {
+        Got::Value(v) => Reading::Read(v, next, moved),
+        Got::Fault(_) => Reading::NotNear,
     }
 }

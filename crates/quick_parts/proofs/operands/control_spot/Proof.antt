@@ -17,7 +17,7 @@ returns-2 c =
 
 returns-3 : tie.Need-returns-3
 returns-3 c =
-    rw (c .before .match .keys3) (c .absolute-spot .ensures _)
+    rw (c .before .match .keys3) (c .absolute-spot .ensures .0 _)
 
 pub control-spot-spec : {M : Type 1} → statement M
 control-spot-spec =
