@@ -82,6 +82,10 @@ past {line} {n} {w} (suc d) h c = let b = past d h (c .0) in go b (decLt (firstR
 pub only : {line n w : ℕ} → Within line n w → firstRow (line + 1) ≡ suc (firstRow line + n) → firstRow line + n ≡ rowOf w
 only h e = omega arith
 
+-- the line's last row, where none of those before it fits
+pub last : {line n w k : ℕ} → Within line n w → None w (firstRow line + n) (k - (firstRow line + n)) → firstRow (line + 1) ≡ suc k → k ≡ rowOf w
+last {line} {n} {w} {k} h c e = let p = past (k - (firstRow line + n)) h c in omega arith
+
 -- ---- ADDQ and SUBQ of a long to Dn: bits 7 to 3 are 10000
 
 middle : (w m v : ℕ) → bitAnd w m ≡ v → bitAnd (w / 8 % 32) (m / 8 % 32) ≡ v / 8 % 32
