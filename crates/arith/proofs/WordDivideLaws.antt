@@ -1,15 +1,15 @@
 -- Quotients by a word, the signed one from that of longs: what the returns of `word_quotient` and `signed_word_quotient` ask. Assumes nothing.
 use mathlib.Core.Path.{_≡_, refl, sym, ap, _∙_}
 use mathlib.Core.Bool.{Bool, true, false, cond}
-use Prim.Native.Nat.{ℕ, suc, _+_, _-_, _%_, _^_, _≤_, _<_}
+use Prim.Native.Nat.{ℕ, _%_, _^_, _≤_, _<_}
 use native.Mathlib.Omega.{arith}
 use lib.IntN.{ℤ, pos, negsuc}
 use lib.Signed.{quotZ, remZ}
 use lib.Dec.{eqb, ltb}
-use borrow.Author.Tests.{lt-ltb, le-ltb, eq-eqb, ne-eqb}
+use borrow.Author.Tests.{lt-ltb, le-ltb, ne-eqb}
 use Rattle.manual.specs.declared.Size.the-variants.{Word, Long}
 use Rattle.manual.specs.declared.Quotient.{Quotient}
-use Rattle.manual.specs.Word.{signedAt, signed, fits, modZ, plus, cut, signExtended}
+use Rattle.manual.specs.Word.{signed, fits, modZ, plus, cut, signExtended}
 use Rattle.manual.specs.Divide.{noQuotient, signedQuotient, signedWordQuotient}
 use Rattle.word.specs.TestLaws.{by-lt}
 use Rattle.word.specs.SignedLaws.{signed-pos, signed-neg}
@@ -44,27 +44,20 @@ module _ (q r : ℤ) where
       narrowed (cond (fits Long q) (record { fits = true; quotient = modZ q (2 ^ 32); remainder = modZ r (2 ^ 32) }) noQuotient)
       ≡ cond (fits Word q) (record { fits = true; quotient = modZ q 0x1_0000; remainder = modZ r 0x1_0000 }) noQuotient
 
-  word : fits Long q ≡ true → fits Word q ≡ true → plus (modZ q (2 ^ 32)) 0x8000 < 0x1_0000 → Narrows
-  word h k l = rw (h, k, lt-ltb (plus (modZ q (2 ^ 32)) 0x8000) 0x1_0000 l, low-word q, low-word r)
-
-  long : fits Long q ≡ true → fits Word q ≡ false → 0x1_0000 ≤ plus (modZ q (2 ^ 32)) 0x8000 → Narrows
-  long h k l = rw (h, k, le-ltb (plus (modZ q (2 ^ 32)) 0x8000) 0x1_0000 l)
-
-  neither : fits Long q ≡ false → fits Word q ≡ false → Narrows
-  neither h k = rw (h, k)
+  -- n is q, or -1 - q where q is negative: it alone says which sizes q fits
+  by-size : (n : ℕ) → fits Long q ≡ ltb n 0x8000_0000 → fits Word q ≡ ltb n 0x8000
+      → (n < 0x8000 → plus (modZ q (2 ^ 32)) 0x8000 < 0x1_0000)
+      → (0x8000 ≤ n → n < 0x8000_0000 → 0x1_0000 ≤ plus (modZ q (2 ^ 32)) 0x8000) → Narrows
+  by-size n a b small large = by-lt n 0x8000
+      (λ l. rw (a, b, lt-ltb n 0x8000_0000 (omega arith), lt-ltb n 0x8000 l, lt-ltb (plus (modZ q (2 ^ 32)) 0x8000) 0x1_0000 (small l), low-word q, low-word r))
+      (λ l. by-lt n 0x8000_0000
+      (λ k. rw (a, b, lt-ltb n 0x8000_0000 k, le-ltb n 0x8000 l, le-ltb (plus (modZ q (2 ^ 32)) 0x8000) 0x1_0000 (large l k)))
+      (λ k. rw (a, b, le-ltb n 0x8000_0000 k, le-ltb n 0x8000 l)))
 
 narrows : (q r : ℤ) → Narrows q r
 unfolding plus
-narrows (pos n) r = by-lt n 0x8000
-    (λ l. word (pos n) r (lt-ltb n 0x8000_0000 (omega arith)) (lt-ltb n 0x8000 l) (omega arith))
-    (λ l. by-lt n 0x8000_0000
-    (λ k. long (pos n) r (lt-ltb n 0x8000_0000 k) (le-ltb n 0x8000 l) (omega arith))
-    (λ k. neither (pos n) r (le-ltb n 0x8000_0000 k) (le-ltb n 0x8000 l)))
-narrows (negsuc n) r = by-lt n 0x8000
-    (λ l. word (negsuc n) r (lt-ltb n 0x8000_0000 (omega arith)) (lt-ltb n 0x8000 l) (omega arith))
-    (λ l. by-lt n 0x8000_0000
-    (λ k. long (negsuc n) r (lt-ltb n 0x8000_0000 k) (le-ltb n 0x8000 l) (omega arith))
-    (λ k. neither (negsuc n) r (le-ltb n 0x8000_0000 k) (le-ltb n 0x8000 l)))
+narrows (pos n) r = by-size (pos n) r n refl refl (λ l. omega arith) (λ l k. omega arith)
+narrows (negsuc n) r = by-size (negsuc n) r n refl refl (λ l. omega arith) (λ l k. omega arith)
 
 -- ---- the sign-extended word
 

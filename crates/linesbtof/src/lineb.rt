@@ -7,7 +7,6 @@ use address::operands::destination;
 use address::operands::fetch;
 use address::operands::source;
 use manual::Change;
-use manual::Fault;
 use manual::Got;
 use manual::Logic;
 use manual::Size;
@@ -22,10 +21,8 @@ use word::word::plus;
 use word::word::sign_extended;
 use word::word::size_of;
 ghost use mathlib.Core.Path.{_≡_};
-ghost use Prim.Native.Nat.{_+_, _*_, _/_, _%_, _<_};
 ghost use Rattle.instructions.specs.LineB.{cmp as cmpOf, cmpa as cmpaOf, logicToPlace, lineB as lineBOf};
 ghost use Rattle.manual.specs.Memory.{mapped};
-ghost use Rattle.manual.specs.Differences.{anySize};
 
 fn cmp(g: &[u32; 16], at: u32, sr: u16, mem: &[u8], op: u32) -> Change
     ensures { λ e. ⌜ e ≡ cmpOf (now (g .entry)) at sr (mapped (now (mem .entry))) op ⌝ }

@@ -7,7 +7,6 @@ use address::operands::source;
 use arith::multiply::signed_word_product;
 use arith::multiply::word_product;
 use manual::Change;
-use manual::Fault;
 use manual::Got;
 use manual::Logic;
 use manual::Size;
@@ -19,10 +18,8 @@ use word::word::merged;
 use word::word::plus;
 use word::word::size_of;
 ghost use mathlib.Core.Path.{_≡_};
-ghost use Prim.Native.Nat.{_+_, _*_, _/_, _%_, _<_};
 ghost use Rattle.instructions.specs.LineC.{logicToData, product as productOf, mulW, lineC as lineCOf};
 ghost use Rattle.manual.specs.Memory.{mapped};
-ghost use Rattle.manual.specs.Differences.{anySize};
 
 pub(crate) fn logic_to_data(
     l: Logic,

@@ -13,7 +13,7 @@ use word::registers::no_write;
 use word::registers::write_data;
 use word::word::plus;
 ghost use mathlib.Core.Path.{_≡_};
-ghost use Prim.Native.Nat.{_+_, _*_, _/_, _%_, _<_};
+ghost use Prim.Native.Nat.{_<_};
 ghost use Rattle.instructions.specs.LineE.{shiftCount, shifted as shiftedOf, shift as shiftOf, lineE as lineEOf};
 
 fn shift_count(g: &[u32; 16], op: u32) -> u32

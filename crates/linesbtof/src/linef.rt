@@ -10,7 +10,6 @@ use address::operands::destination;
 use address::operands::extension;
 use address::operands::operand;
 use manual::Change;
-use manual::Fault;
 use manual::Got;
 use manual::Place;
 use manual::Reached;
@@ -20,7 +19,6 @@ use word::registers::no_write;
 use word::word::plus;
 use word::word::size_of;
 ghost use mathlib.Core.Path.{_≡_};
-ghost use Prim.Native.Nat.{_+_, _*_, _/_, _%_, _<_};
 ghost use Rattle.manual.specs.Memory.{mapped};
 ghost use Rattle.instructions.specs.LineF.{wdebug as wdebugOf, cacheLine, wddata as wddataOf, lineF as lineFOf};
 

@@ -26,10 +26,6 @@ abbrev pub Clear : ℕ → ℕ → ℕ → ℕ → Type 0
 Clear w k n zero = Unit {0}
 Clear w k n (suc d) = Also (beside n k) (Fits w n → ⊥) (Clear w k (suc n) d)
 
--- where one row can fit beside it: that one does not
-pub unless : {A : Type 0} → A → A × Unit {0}
-unless a = (a, tt)
-
 head : (b : Bool) (A B : Type 0) → b ≡ true → Also b A B → A
 head true A B e p = p .0
 head false A B e p = let z : _≡_ {A = ℕ} 0 1 = cc in absurd (not-one z)
@@ -68,9 +64,9 @@ abbrev pub None : ℕ → ℕ → ℕ → Type 0
 None w n zero = Unit {0}
 None w n (suc d) = None w n d × (Fits w (n + d) → ⊥)
 
-pub past : {line n w : ℕ} (d : ℕ) → Within line n w → None w (firstRow line + n) d → Within line (n + d) w
-past {line} {n} {w} zero h c = record { word = h .word; low = omega arith; high = h .high }
-past {line} {n} {w} (suc d) h c = let b = past d h (c .0) in go b (decLt (firstRow line + n + d) (rowOf w))
+past-by : {line n w : ℕ} (d : ℕ) → Within line n w → None w (firstRow line + n) d → Within line (n + d) w
+past-by {line} {n} {w} zero h c = record { word = h .word; low = omega arith; high = h .high }
+past-by {line} {n} {w} (suc d) h c = let b = past-by d h (c .0) in go b (decLt (firstRow line + n + d) (rowOf w))
   where
     go : Within line (n + d) w → Dec (firstRow line + n + d < rowOf w) → Within line (n + suc d) w
     go b (yes l) = record { word = h .word; low = omega arith; high = h .high }
@@ -78,9 +74,15 @@ past {line} {n} {w} (suc d) h c = let b = past d h (c .0) in go b (decLt (firstR
         let q : rowOf w ≡ firstRow line + n + d = omega arith in
         absurd (c .1 (subst (λ (x : ℕ). Fits w x) q (rowOf-fits w (h .word))))
 
--- one row of the line is left
-pub only : {line n w : ℕ} → Within line n w → firstRow (line + 1) ≡ suc (firstRow line + n) → firstRow line + n ≡ rowOf w
-only h e = omega arith
+-- `past` and `last`, as `taken`, have their numbers from the goal, so that `search` finds what they ask among what a function knows.
+-- None of the rows from n up to m fits
+pub past : {line n m w : ℕ} → Within line n w → None w (firstRow line + n) (m - n) → Within line m w
+past {line} {n} {m} {w} h c =
+    let b = past-by (m - n) h c in record { word = h .word; low = omega arith; high = h .high }
+
+-- the line's last row, where none of those before it fits
+pub last : {line n w k : ℕ} → Within line n w → None w (firstRow line + n) (k - (firstRow line + n)) → firstRow (line + 1) ≡ suc k → k ≡ rowOf w
+last {line} {n} {w} {k} h c e = let b = past-by (k - (firstRow line + n)) h c in omega arith
 
 -- ---- ADDQ and SUBQ of a long to Dn: bits 7 to 3 are 10000
 
@@ -105,7 +107,7 @@ none-of w n (suc d) f t =
     (none-of w n d f (k .1), apart w (n + d) f (k .0))
 
 pub long-addq : {w : ℕ} → Within 5 0 w → bitAnd w 0xF0F8 ≡ 0x5080 → firstRow 5 + 8 ≡ rowOf w
-long-addq {w} h f = only (past 8 h (none-of w (firstRow 5) 8 f tt)) refl
+long-addq {w} h f = last h (none-of w (firstRow 5) 8 f tt) refl
 
 -- ---- the word's line, by its four top bits
 

@@ -2,7 +2,7 @@
 -- Assumes nothing.
 use mathlib.Core.Path.{_≡_, sym, ap, _∙_, subst}
 use mathlib.Core.Bool.{Bool, true, false, false≢true}
-use mathlib.Core.List.{List, [], _∷_}
+use mathlib.Core.List.{List}
 use Prim.Native.Nat.{ℕ, _+_, _*_, _/_, _%_, _≤_, _<_}
 use native.Mathlib.Omega.{arith}
 use native.Mathlib.Nat.{le-refl, le-of-lt, le-of-eq, not-le-of-lt, mod-eq-of-lt, mod-mod, mod-lt, zero-lt-suc}
@@ -10,7 +10,7 @@ use native.Mathlib.Decide.{decLt}
 use borrow.Author.Tests.{le-leb, lt-ltb}
 use lib.Bits.{bitAnd, and-shr, and-mask}
 use lib.Dec.{T, eqb, ltb, leb, eqb→eq, ltb→lt, leb→le}
-use lib.ListN.{getD, drop, List·getD-eq-default}
+use lib.ListN.{drop, List·getD-eq-default}
 use Rattle.manual.specs.declared.Emac.{Emac}
 use Rattle.manual.specs.Memory.{Memory}
 use Rattle.instructions.specs.Rows.{values, masks, value, mask, fixedBits, rowCount, firstRow, Fits, IsRow, firstFit, rowOf}

@@ -1,8 +1,7 @@
 -- `rows::line_4_ff00` meets its contract. Assumes nothing.
-use mathlib.Core.Path.{refl}
-use Rattle.rows.proofs.DecodeLaws.{only, past, taken}
+use Rattle.rows.proofs.DecodeLaws.{taken, last}
 use Rattle.rows.proofs.line_4_ff00.Statement.{statement}
 use Rattle.rows.proofs.line_4_ff00.Tie as tie
 
 pub line-4-ff00-spec : {M : Type 1} → statement M
-line-4-ff00-spec = tie.close (tie.spec (λ c. taken (c .before .pre) (c .if1 .taken) tt) (λ c. taken (c .before .before .pre) (c .if2 .taken) tt) (λ c. taken (c .before .before .before .pre) (c .if3 .taken) tt) (λ c. only (past 3 (c .before .before .before .pre) (((tt, c .before .before .if1 .left), c .before .if2 .left), c .if3 .left)) refl))
+line-4-ff00-spec = tie.close (tie.spec (λ c. search taken) (λ c. search taken) (λ c. search taken) (λ c. search last))
