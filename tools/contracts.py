@@ -28,7 +28,7 @@ import re
 KINDS = BOUNDS, EACH, LEFT = "an equation, and bounds", "an equation each", "done, or left"
 
 # of the quick path: the record of what is there afterwards, and what it equals, said of the same answer
-AGREED = {"Effects.after": "Effects.agreed", "Units.afterMac": "Units.agreedMac", "Attempts.whole": "Attempts.agreedWhole"}
+AGREED = {"Effects.after": "Effects.agreed", "Units.afterMac": "Units.agreedMac"}
 # an answer filled up from a definition equals that definition
 FILLED = {"Near.spotted", "Near.asRead", "Near.controlledAt"}
 # what a contract of the quick path may be said for all of, types that have values

@@ -35,14 +35,12 @@ use Rattle.state.specs.FirstLaws.{first-admitted, first-kept}
 use Rattle.machine.specs.KeptLaws.{perform-admitted}
 use Rattle.quick_parts.specs.declared.inplace.Effect.{Effect}
 use Rattle.quick_parts.specs.declared.inplace.Effect.the-variants.{Done as OnPlace, Left as NotOnPlace}
-use Rattle.quick_parts.specs.Effects.{after as effected, agreed, inPlace}
+use Rattle.quick_parts.specs.Effects.{after as effected, agreed}
 use Rattle.quick_parts.specs.PlaceLaws as place
-use Rattle.quick_bodies.specs.declared.mac.Summed.the-variants.{Done as OnUnit}
-use Rattle.quick_bodies.specs.Units.{afterMac, inUnit}
+use Rattle.quick_bodies.specs.declared.mac.Summed.{Summed}
+use Rattle.quick_bodies.specs.declared.mac.Summed.the-variants.{Done as OnUnit, Left as NotOnUnit}
+use Rattle.quick_bodies.specs.Units.{AfterMac, afterMac, agreedMac, undone}
 use Rattle.quick_bodies.specs.UnitLaws.{summed-performed}
-use Rattle.quick.specs.declared.Attempt.{Attempt}
-use Rattle.quick.specs.declared.Attempt.the-variants.{Done as InPlace, Summed as InUnit, Left}
-use Rattle.quick.specs.Attempts.{whole as all, agreedWhole, Attempted, apart}
 
 -- ---- a run over a step, which stays shut
 
@@ -166,56 +164,37 @@ module _ {b k v : ℕ} {whole : Advance} {g : List ℕ} {pc sr : ℕ} {e : Emac}
   pub stops-here : (r : Stepped) (m′ : Storage) → outcome r m′ ≡ step here l → isDone (r .reply) ≡ false → advance (endedAs (r .reply) k 0 (r .cpu)) m′ ≡ whole
   stops-here r m′ h d = stops b k v whole here l (t .turn .inv) r m′ (t .turn .more) h d
 
--- in parts: what is done in place is the step, and what is left undone leaves the turn as it was
-module _ {b k v : ℕ} {whole : Advance} {g : List ℕ} {pc sr : ℕ} {rest : Cpu} {l : Lent} {op row : ℕ} (macsr mask : ℕ) (acc : List ℕ)
-    (t : Fetched b k v whole g pc sr (emacOf macsr mask acc) rest l op row) (g′ acc′ : List ℕ) (m′ : Storage) where
-  abbrev unit : Emac
-  unit = emacOf macsr mask acc
-
-  abbrev change : Change
-  change = ofRow row g pc sr (rest .other) unit (memoryOf l) op
-
-  abbrev goal : Outcome
-  goal = step (withParts g pc sr unit rest) l
-
-  as-left : (g′ ≡ g) × (acc′ ≡ acc) × (m′ ≡ l .storage) → Fetched b k v whole g′ pc sr (emacOf macsr mask acc′) rest (lentOn l m′) op row
-  as-left p = record {
-    turn = record { more = t .turn .more; ready = rw (p .0, p .1, p .2) (t .turn .ready); inv = rw (p .0, p .1, p .2) (t .turn .inv) };
+  -- a word that is left undone leaves the turn as it was
+  as-left : (g′ : List ℕ) (e′ : Emac) (m′ : Storage) → g′ ≡ g → e′ ≡ e → m′ ≡ l .storage → Fetched b k v whole g′ pc sr e′ rest (lentOn l m′) op row
+  as-left g′ e′ m′ p q s = record {
+    turn = record { more = t .turn .more; ready = rw (p, q, s) (t .turn .ready); inv = rw (p, q, s) (t .turn .inv) };
     going = t .going;
-    word = rw (p .2) (t .word);
+    word = rw s (t .word);
     is-row = t .is-row;
   }
 
-  as-placed : (pc′ sr′ : ℕ) → (effected (OnPlace pc′ sr′) g′ m′ ≡ inPlace change sr g (memoryOf l)) × (acc′ ≡ acc)
-      → completed (withParts g′ pc′ sr′ (emacOf macsr mask acc′) rest) 0 m′ ≡ goal
-  as-placed pc′ sr′ p =
-      rw (p .1) (place.performed g pc sr unit rest (memoryOf l) change pc′ sr′ g′ m′ (p .0) ∙ sym (is-step t))
-
-  module _ (r : Attempt) (w : all r sr macsr mask g′ acc′ m′ ≡ agreedWhole r change sr macsr mask g acc (memoryOf l)) where
-    h : Attempted change sr macsr mask g acc (memoryOf l) g′ acc′ m′ r
-    h = apart change sr macsr mask g acc (memoryOf l) g′ acc′ m′ r w
-
-    pub again : r ≡ Left → Fetched b k v whole g′ pc sr (emacOf macsr mask acc′) rest (lentOn l m′) op row
-    again q = as-left (rw q at h)
-
-    pub in-place : (pc′ sr′ : ℕ) → r ≡ InPlace pc′ sr′ → completed (withParts g′ pc′ sr′ (emacOf macsr mask acc′) rest) 0 m′ ≡ goal
-    in-place pc′ sr′ q = as-placed pc′ sr′ (rw q at h)
-
-    pub in-unit : (pc′ macsr′ : ℕ) → r ≡ InUnit pc′ macsr′ → completed (withParts g′ pc′ sr (emacOf macsr′ mask acc′) rest) 0 m′ ≡ goal
-    in-unit pc′ macsr′ q =
-        let p : (afterMac (OnUnit pc′ macsr′) sr macsr mask acc′ g′ ≡ inUnit change sr unit g) × (m′ ≡ l .storage) = rw q at h in
-        rw (p .1)
-        (summed-performed g pc sr unit rest (memoryOf l) change pc′ (emacOf macsr′ mask acc′) g′ (p .0) ∙ sym (is-step t))
-
-  -- the same of the plain engine, which leaves the accumulators alone
-  module _ (r : Effect) (h : effected r g′ m′ ≡ agreed r change sr g (memoryOf l)) (same : acc′ ≡ acc) where
-    pub again-plain : r ≡ NotOnPlace → Fetched b k v whole g′ pc sr (emacOf macsr mask acc′) rest (lentOn l m′) op row
-    again-plain q =
+  -- in place: what is done is the step
+  module _ (g′ : List ℕ) (m′ : Storage) (r : Effect) (h : effected r g′ m′ ≡ agreed r c sr g (memoryOf l)) where
+    pub again : r ≡ NotOnPlace → Fetched b k v whole g′ pc sr e rest (lentOn l m′) op row
+    again q =
         let p : effected NotOnPlace g′ m′ ≡ effected NotOnPlace g (l .storage) = rw q at h in
-        as-left (place.left-registers g (l .storage) g′ m′ p, same, place.left-memory g (l .storage) g′ m′ p)
+        as-left g′ e m′ (place.left-registers g (l .storage) g′ m′ p) refl (place.left-memory g (l .storage) g′ m′ p)
 
-    pub in-place-plain : (pc′ sr′ : ℕ) → r ≡ OnPlace pc′ sr′ → completed (withParts g′ pc′ sr′ (emacOf macsr mask acc′) rest) 0 m′ ≡ goal
-    in-place-plain pc′ sr′ q = as-placed pc′ sr′ (rw q at h, same)
+    pub in-place : (pc′ sr′ : ℕ) → r ≡ OnPlace pc′ sr′ → completed (withParts g′ pc′ sr′ e rest) 0 m′ ≡ step here l
+    in-place pc′ sr′ q = place.performed g pc sr e rest (memoryOf l) c pc′ sr′ g′ m′ (rw q at h) ∙ sym is-step
+
+-- in the unit: the same, of what leaves storage as it is
+module _ {b k v : ℕ} {whole : Advance} {g : List ℕ} {pc sr : ℕ} {rest : Cpu} {l : Lent} {op row : ℕ} (macsr mask : ℕ) (acc : List ℕ)
+    (t : Fetched b k v whole g pc sr (emacOf macsr mask acc) rest l op row) (g′ acc′ : List ℕ) (r : Summed)
+    (h : afterMac r sr macsr mask acc′ g′ ≡ agreedMac r (c t) sr (emacOf macsr mask acc) g) where
+  pub again-unit : r ≡ NotOnUnit → Fetched b k v whole g′ pc sr (emacOf macsr mask acc′) rest l op row
+  again-unit q =
+      let p : undone sr g′ (emacOf macsr mask acc′) ≡ undone sr g (emacOf macsr mask acc) = rw q at h in
+      as-left t g′ (emacOf macsr mask acc′) (l .storage) (ap (λ (a : AfterMac). a .registers) p) (ap (λ (a : AfterMac). a .unit) p) refl
+
+  pub in-unit : (pc′ macsr′ : ℕ) → r ≡ OnUnit pc′ macsr′ → completed (withParts g′ pc′ sr (emacOf macsr′ mask acc′) rest) 0 (l .storage) ≡ step (here t) l
+  in-unit pc′ macsr′ q =
+      summed-performed g pc sr (emacOf macsr mask acc) rest (memoryOf l) (c t) pc′ (emacOf macsr′ mask acc′) g′ (rw q at h) ∙ sym (is-step t)
 
 -- ---- the definition's run
 

@@ -11,8 +11,9 @@ use manual::Reply;
 use manual::Size;
 use manual::Stepped;
 use memory::load;
-use quick::Attempt;
-use quick::quick_step;
+use quick::in_place;
+use quick::summed;
+use quick_bodies::mac::Summed;
 use quick_parts::inplace::Effect;
 use rows::row_by;
 use rows::top_rows;
@@ -61,8 +62,8 @@ fn assembled(rest: Cpu, g: [u32; 16], pc: u32, sr: u16, macsr: u32, mask: u32, a
 }
 
 // As many steps as the budget says, or up to one that is refused. The registers stand apart from the rest of the state, which is checked
-// once, for every step keeps it admitted; the rows are found by the table that is lent. A word is tried by the quick path and then by the
-// plain engine, both in place; what neither does is done on the whole state.
+// once, for every step keeps it admitted; the rows are found by the table that is lent. A word is tried by the two parts of the quick path
+// and then by the plain engine, all in place; what none of them does is done on the whole state.
 fn advanced(top: &[u8], given: Cpu, mem: &mut [u8], budget: u32) -> Progress
     requires { ⌜ (isDone (firstRefusal given (lent (now mem))) ≡ true) × Sound (now top) ⌝ }
     ensures { λ r. ⌜ advance r (now (mem .exit)) ≡ progress budget 0 0 given (lent (now (mem .entry))) ⌝ }
@@ -90,22 +91,29 @@ fn advanced(top: &[u8], given: Cpu, mem: &mut [u8], budget: u32) -> Progress
             }
         };
         let row = row_by(top, op);
-        match quick_step(row, &mut g, &mut acc, pc, sr, macsr, mask, mem, op) {
-            Attempt::Done(next, now) => {
-                pc = next;
-                sr = now;
-                vector = 0;
-                n = done;
-                continue;
-            }
-            Attempt::Summed(next, now) => {
-                pc = next;
-                macsr = now;
-                vector = 0;
-                n = done;
-                continue;
-            }
-            Attempt::Left => {}
+        if let Effect::Done(next, now) = in_place(row, &mut g, pc, sr, mem, op) {
+            pc = next;
+            sr = now;
+            vector = 0;
+            n = done;
+            continue;
+        }
+        if let Summed::Done(next, now) = summed(
+            row,
+            &mut g,
+            &mut acc,
+            pc,
+            sr,
+            macsr,
+            mask,
+            &*mem,
+            op,
+        ) {
+            pc = next;
+            macsr = now;
+            vector = 0;
+            n = done;
+            continue;
         }
         let other = rest.other;
         match plain(row, &mut g, pc, sr, other, macsr, mask, &acc, mem, op) {

@@ -53,14 +53,7 @@ ghost use Rattle.manual.specs.declared.Logic.the-variants.{And, Or};
 ghost use Rattle.instructions.specs.Rows.{rowOf};
 ghost use Rattle.instructions.specs.Step.{ofRow};
 ghost use Rattle.quick_parts.specs.Effects.{after, agreed};
-ghost use Rattle.quick.specs.Attempts.{whole, agreedWhole};
-
-// Done, with the next address and the status register; or summed, with the next address and MACSR; or left, with nothing changed.
-pub enum Attempt {
-    Done(u32, u16),
-    Summed(u32, u32),
-    Left,
-}
+ghost use Rattle.quick_bodies.specs.Units.{afterMac, agreedMac};
 
 // What AND and OR make of two numbers, by their row. They share one call of their body, so that a compiler puts it there.
 fn logic_of(row: u8) -> Logic
@@ -75,6 +68,8 @@ fn logic_of(row: u8) -> Logic
 
 // The instruction of a row done in place, or left with nothing changed.
 // The instructions that leave the EMAC unit as it is. The bodies of quick_bodies are for the quick path alone; the others are the plain engine's.
+// The default case is for the rows of `part`, which leaves any other: a pattern that names neighbours becomes a chain of tests, and the
+// default case is reached by the table of jumps. MAC is left for the caller's next question, so that no other row pays for it.
 pub fn in_place(row: u8, g: &mut [u32; 16], pc: u32, sr: u16, mem: &mut [u8], op: u32) -> Effect
     ensures { λ r. ⌜ ((other : ℕ) (e : Emac) → after r (now (g .exit)) (now (mem .exit)) ≡ agreed r (ofRow row (now (g .entry)) pc sr other e (mapped (now (mem .entry))) op) sr (now (g .entry)) (mapped (now (mem .entry)))) ⌝ }
 {
@@ -88,14 +83,6 @@ pub fn in_place(row: u8, g: &mut [u32; 16], pc: u32, sr: u16, mem: &mut [u8], op
         rows::BITOP_DN => bit_by_register(g, pc, sr, op),
         rows::MOVEA_L => movea(g, pc, sr, &*mem, op),
         rows::MOVE_L => move_long(g, pc, sr, mem, op),
-        rows::MOVE_B
-        | rows::MOVEA_W
-        | rows::MOVE_W
-        | rows::TST
-        | rows::MVS
-        | rows::MVZ
-        | rows::MULU_W
-        | rows::MULS_W => { part(row, g, pc, sr, mem, op) }
         rows::RTS => changed(g, sr, rts(&*g, sr, &*mem)),
         rows::EXTB => changed(g, sr, extb(&*g, pc, sr, op)),
         rows::LINK => {
@@ -131,14 +118,15 @@ pub fn in_place(row: u8, g: &mut [u32; 16], pc: u32, sr: u16, mem: &mut [u8], op
         rows::ADD_DN => add_to_data(g, pc, sr, &*mem, op),
         rows::ASX => changed(g, sr, shift(true, &*g, pc, sr, op)),
         rows::LSX => changed(g, sr, shift(false, &*g, pc, sr, op)),
-        _ => Effect::Left,
+        rows::MAC => Effect::Left,
+        _ => part(row, g, pc, sr, mem, op),
     }
 }
 
-// The instruction of a row done in place, MAC too, or left with nothing changed.
-// It has one caller, so a compiler puts it there with all that is below it, up to a size that is nearly reached: a run is slower by
-// half where it stays a call. So the instructions of a step are to be counted after each new arm.
-pub fn quick_step(
+// MAC and MSAC of longs done in place, or left with nothing changed; any other row is left.
+// This and `in_place` have one caller each, so a compiler puts them there with all that is below them, up to a size: a run is slower by
+// half where one stays a call. So the instructions of a step are to be counted after each new arm.
+pub fn summed(
     row: u8,
     g: &mut [u32; 16],
     acc: &mut [u64; 4],
@@ -146,19 +134,13 @@ pub fn quick_step(
     sr: u16,
     macsr: u32,
     mask: u32,
-    mem: &mut [u8],
+    mem: &[u8],
     op: u32,
-) -> Attempt
-    ensures { λ r. ⌜ ((other : ℕ) → whole r sr macsr mask (now (g .exit)) (now (acc .exit)) (now (mem .exit)) ≡ agreedWhole r (ofRow row (now (g .entry)) pc sr other (emacOf macsr mask (now (acc .entry))) (mapped (now (mem .entry))) op) sr macsr mask (now (g .entry)) (now (acc .entry)) (mapped (now (mem .entry)))) ⌝ }
+) -> Summed
+    ensures { λ r. ⌜ ((other : ℕ) → afterMac r sr macsr mask (now (acc .exit)) (now (g .exit)) ≡ agreedMac r (ofRow row (now (g .entry)) pc sr other (emacOf macsr mask (now (acc .entry))) (mapped (now (mem .entry))) op) sr (emacOf macsr mask (now (acc .entry))) (now (g .entry))) ⌝ }
 {
-    if row == rows::MAC {
-        match quick_mac(g, acc, pc, sr, macsr, mask, &*mem, op) {
-            Summed::Done(next, now) => return Attempt::Summed(next, now),
-            Summed::Left => return Attempt::Left,
-        }
+    if row != rows::MAC {
+        return Summed::Left;
     }
-    match in_place(row, g, pc, sr, mem, op) {
-        Effect::Done(next, now) => Attempt::Done(next, now),
-        Effect::Left => Attempt::Left,
-    }
+    quick_mac(g, acc, pc, sr, macsr, mask, mem, op)
 }

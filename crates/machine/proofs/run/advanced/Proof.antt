@@ -1,5 +1,6 @@
 -- `machine::run::advanced` meets its contract. What a turn of the loop knows is said once, at the first place of the code where it is
--- known: in the loop, once the word and its row are there, and where a word was left by the quick path and by the plain engine.
+-- known: in the loop, once the word and its row are there, and where a word was left by each part of the quick path and by the plain
+-- engine.
 -- Assumes nothing.
 use denote.Ref.{now}
 use Prim.Native.Nat.{ℕ, _≤_, _-_}
@@ -74,80 +75,107 @@ module _ (c : tie.After-row-by Inv-loop μ-loop) where
         is-row = c .row-by .ensures ∙ start at .pre .1 word;
       }
 
--- ---- after the quick path
+-- ---- after what is done in place
 
-module _ (c : tie.After-quick-step Inv-loop μ-loop) where
+module _ (c : tie.After-in-place Inv-loop μ-loop) where
   abbrev row : tie.After-row-by Inv-loop μ-loop
-  row = c .before .before .before .before
+  row = c .before .before .before
 
   abbrev registers : List ℕ
-  registers = c .quick-step .last .1 .0
-
-  abbrev sums : List ℕ
-  sums = c .quick-step .last .1 .1 .0
+  registers = c .in-place .last .1 .0
 
   abbrev storage : Storage
-  storage = c .quick-step .last .1 .1 .1 .1 .1 .1 .1 .0
+  storage = c .in-place .last .1 .1 .1 .1 .0
 
   held : length storage ≡ length (at row .loop .mem)
-  held = c .quick-step .kept .1 .1 .1 .1 .1 .1 .1 .0
+  held = c .in-place .kept .1 .1 .1 .1 .0
 
 -- it left the word
 module _ (c : tie.After-enum-told Inv-loop μ-loop) where
-  abbrev quick : tie.After-quick-step Inv-loop μ-loop
-  quick = c .before .before .before .before
+  abbrev placed : tie.After-in-place Inv-loop μ-loop
+  placed = c .before .before .before .before
 
   abbrev from : tie.At-loop Inv-loop μ-loop
-  from = at (row quick)
+  from = at (row placed)
 
-  abbrev sum : Emac
-  sum = emacOf (from .loop .macsr) (from .loop .mask) (sums quick)
-
-  left : laws.Fetched (start from .args .budget) (from .loop .n) (from .loop .vector) (due from) (registers quick) (from .loop .pc) (from .loop .sr) sum (from .loop .rest) (lent (storage quick)) (word (row quick)) (row quick .row-by .result)
+  left : laws.Fetched (start from .args .budget) (from .loop .n) (from .loop .vector) (due from) (registers placed) (from .loop .pc) (from .loop .sr) (unit from) (from .loop .rest) (lent (storage placed)) (word (row placed)) (row placed .row-by .result)
   left =
-      laws.again (from .loop .macsr) (from .loop .mask) (from .loop .acc) (fetched (row quick)) (registers quick) (sums quick) (storage quick) (quick .quick-step .result) (quick .quick-step .ensures (from .loop .rest .other)) (c .enum-told .given .1)
+      laws.again (fetched (row placed)) (registers placed) (storage placed) (placed .in-place .result) (placed .in-place .ensures (from .loop .rest .other) (unit from)) (c .enum-told .given .1)
 
--- ---- after the plain engine
+-- ---- after what is summed
 
-module _ (c : tie.After-plain Inv-loop μ-loop) where
+module _ (c : tie.After-summed Inv-loop μ-loop) where
   abbrev told : tie.After-enum-told Inv-loop μ-loop
   told = c .before .before .before .before
 
   abbrev registers2 : List ℕ
-  registers2 = c .plain .last .1 .0
+  registers2 = c .summed .last .1 .0
 
-  abbrev storage2 : Storage
-  storage2 = c .plain .last .1 .1 .1 .1 .1 .1 .1 .1 .0
-
-  held2 : length storage2 ≡ length (storage (quick told))
-  held2 = c .plain .kept .1 .1 .1 .1 .1 .1 .1 .1 .0
+  abbrev sums : List ℕ
+  sums = c .summed .last .1 .1 .0
 
 -- it left the word as well
 module _ (c : tie.After-enum-told2 Inv-loop μ-loop) where
+  abbrev summed : tie.After-summed Inv-loop μ-loop
+  summed = c .before .before
+
+  abbrev placed2 : tie.After-in-place Inv-loop μ-loop
+  placed2 = placed (told summed)
+
+  abbrev from2 : tie.At-loop Inv-loop μ-loop
+  from2 = from (told summed)
+
+  abbrev unit2 : Emac
+  unit2 = emacOf (from2 .loop .macsr) (from2 .loop .mask) (sums summed)
+
+  left2 : laws.Fetched (start from2 .args .budget) (from2 .loop .n) (from2 .loop .vector) (due from2) (registers2 summed) (from2 .loop .pc) (from2 .loop .sr) unit2 (from2 .loop .rest) (lent (storage placed2)) (word (row placed2)) (row placed2 .row-by .result)
+  left2 =
+      laws.again-unit (from2 .loop .macsr) (from2 .loop .mask) (from2 .loop .acc) (left (told summed)) (registers2 summed) (sums summed) (summed .summed .result) (summed .summed .ensures (from2 .loop .rest .other)) (c .enum-told2 .given .1)
+
+-- ---- after the plain engine
+
+module _ (c : tie.After-plain Inv-loop μ-loop) where
+  abbrev told2 : tie.After-enum-told2 Inv-loop μ-loop
+  told2 = c .before .before .before .before
+
+  abbrev registers3 : List ℕ
+  registers3 = c .plain .last .1 .0
+
+  abbrev storage3 : Storage
+  storage3 = c .plain .last .1 .1 .1 .1 .1 .1 .1 .1 .0
+
+  held3 : length storage3 ≡ length (storage (placed2 told2))
+  held3 = c .plain .kept .1 .1 .1 .1 .1 .1 .1 .1 .0
+
+-- it left the word too
+module _ (c : tie.After-enum-told3 Inv-loop μ-loop) where
   abbrev plain : tie.After-plain Inv-loop μ-loop
   plain = c .before .before .before .before
 
-  abbrev from2 : tie.At-loop Inv-loop μ-loop
-  from2 = from (told plain)
+  abbrev placed3 : tie.After-in-place Inv-loop μ-loop
+  placed3 = placed2 (told2 plain)
 
-  left2 : laws.Fetched (start from2 .args .budget) (from2 .loop .n) (from2 .loop .vector) (due from2) (registers2 plain) (from2 .loop .pc) (from2 .loop .sr) (sum (told plain)) (from2 .loop .rest) (lent (storage2 plain)) (word (row (quick (told plain)))) (row (quick (told plain)) .row-by .result)
-  left2 =
-      laws.again-plain (from2 .loop .macsr) (from2 .loop .mask) (sums (quick (told plain))) (left (told plain)) (registers2 plain) (sums (quick (told plain))) (storage2 plain) (plain .plain .result) (plain .plain .ensures) refl (c .enum-told2 .given .1)
+  abbrev from3 : tie.At-loop Inv-loop μ-loop
+  from3 = from2 (told2 plain)
+
+  left3 : laws.Fetched (start from3 .args .budget) (from3 .loop .n) (from3 .loop .vector) (due from3) (registers3 plain) (from3 .loop .pc) (from3 .loop .sr) (unit2 (told2 plain)) (from3 .loop .rest) (lent (storage3 plain)) (word (row placed3)) (row placed3 .row-by .result)
+  left3 =
+      laws.again (left2 (told2 plain)) (registers3 plain) (storage3 plain) (plain .plain .result) (plain .plain .ensures) (c .enum-told3 .given .1)
 
 -- ---- and on the whole state
 
 module _ (c : tie.After-performed Inv-loop μ-loop) where
-  abbrev told3 : tie.After-enum-told2 Inv-loop μ-loop
+  abbrev told3 : tie.After-enum-told3 Inv-loop μ-loop
   told3 = c .before .before .before
 
-  abbrev storage3 : Storage
-  storage3 = c .performed .last .1 .1 .0
+  abbrev storage4 : Storage
+  storage4 = c .performed .last .1 .1 .0
 
-  held3 : length storage3 ≡ length (storage2 (plain told3))
-  held3 = c .performed .kept .1 .1 .0
+  abbrev from4 : tie.At-loop Inv-loop μ-loop
+  from4 = from3 told3
 
-  abbrev from3 : tie.At-loop Inv-loop μ-loop
-  from3 = from2 told3
+  held4 : length storage4 ≡ length (from4 .loop .mem)
+  held4 = c .performed .kept .1 .1 .0 ∙ held3 (plain told3) ∙ held (placed3 told3)
 
 -- ---- the needs
 
@@ -171,69 +199,70 @@ loop-again : tie.Need-loop-again Inv-loop μ-loop
 loop-again c =
     let k = c .before .before .before .before .before in
     let x = at (row k) .loop in
+    let e = unit (at (row k)) in
     let d = c .before .next .given in
-    let next = withParts (registers k) (d .0 .0) (d .0 .1 .0) (emacOf (x .macsr) (x .mask) (sums k)) (x .rest) in
-    let done : completed next 0 (storage k) ≡ step (withParts (x .g) (x .pc) (x .sr) (unit (at (row k))) (x .rest)) (lent (x .mem)) =
-    laws.in-place (x .macsr) (x .mask) (x .acc) (fetched (row k)) (registers k) (sums k) (storage k) (k .quick-step .result) (k .quick-step .ensures (x .rest .other)) _ _ (d .1) in
+    let next = withParts (registers k) (d .0 .0) (d .0 .1 .0) e (x .rest) in
+    let done : completed next 0 (storage k) ≡ step (withParts (x .g) (x .pc) (x .sr) e (x .rest)) (lent (x .mem)) =
+    laws.in-place (fetched (row k)) (registers k) (storage k) (k .in-place .result) (k .in-place .ensures (x .rest .other) e) _ _ (d .1) in
     let o = laws.goes-on (fetched (row k)) (completedStep next) _ (held k) done refl in
     (omega (arith, turn (in-loop (row k)) .more), held k ∙ x .inv .1, o .0, o .1)
 
 loop-less-2 : tie.Need-loop-less-2 Inv-loop μ-loop
-loop-less-2 c = let k = c .before .before .before .before .before in omega (arith, turn (in-loop (row k)) .more)
+loop-less-2 c = let k = c .before .before .before in omega (arith, turn (in-loop (row (placed (told k)))) .more)
 
 loop-again-2 : tie.Need-loop-again-2 Inv-loop μ-loop
 loop-again-2 c =
-    let k = c .before .before .before .before .before in
-    let x = at (row k) .loop in
+    let k = c .before .before .before in
+    let t = told k in
+    let p = placed t in
+    let x = from t .loop in
     let d = c .before .next2 .given in
-    let next = withParts (registers k) (d .0 .0) (x .sr) (emacOf (d .0 .1 .0) (x .mask) (sums k)) (x .rest) in
-    let done : completed next 0 (storage k) ≡ step (withParts (x .g) (x .pc) (x .sr) (unit (at (row k))) (x .rest)) (lent (x .mem)) =
-    laws.in-unit (x .macsr) (x .mask) (x .acc) (fetched (row k)) (registers k) (sums k) (storage k) (k .quick-step .result) (k .quick-step .ensures (x .rest .other)) _ _ (d .1) in
-    let o = laws.goes-on (fetched (row k)) (completedStep next) _ (held k) done refl in
-    (omega (arith, turn (in-loop (row k)) .more), held k ∙ x .inv .1, o .0, o .1)
+    let next = withParts (registers2 k) (d .0 .0) (x .sr) (emacOf (d .0 .1 .0) (x .mask) (sums k)) (x .rest) in
+    let done : completed next 0 (storage p) ≡ step (withParts (registers p) (x .pc) (x .sr) (unit (from t)) (x .rest)) (lent (storage p)) =
+    laws.in-unit (x .macsr) (x .mask) (x .acc) (left t) (registers2 k) (sums k) (k .summed .result) (k .summed .ensures (x .rest .other)) _ _ (d .1) in
+    let o = laws.goes-on (left t) (completedStep next) _ refl done refl in
+    (omega (arith, turn (in-loop (row p)) .more), held p ∙ x .inv .1, o .0, o .1)
 
 loop-less-3 : tie.Need-loop-less-3 Inv-loop μ-loop
-loop-less-3 c = let k = c .before .before .before .before .before in omega (arith, turn (in-loop (row (quick (told k)))) .more)
+loop-less-3 c = let k = c .before .before .before .before .before in omega (arith, turn (in-loop (row (placed2 (told2 k)))) .more)
 
 loop-again-3 : tie.Need-loop-again-3 Inv-loop μ-loop
 loop-again-3 c =
     let k = c .before .before .before .before .before in
-    let t = told k in
-    let q = quick t in
-    let x = from t .loop in
+    let t = told2 k in
+    let p = placed2 t in
+    let x = from2 t .loop in
     let d = c .before .next3 .given in
-    let next = withParts (registers2 k) (d .0 .0) (d .0 .1 .0) (sum t) (x .rest) in
-    let done : completed next 0 (storage2 k) ≡ step (withParts (registers q) (x .pc) (x .sr) (sum t) (x .rest)) (lent (storage q)) =
-    laws.in-place-plain (x .macsr) (x .mask) (sums q) (left t) (registers2 k) (sums q) (storage2 k) (k .plain .result) (k .plain .ensures) refl _ _ (d .1) in
-    let o = laws.goes-on (left t) (completedStep next) _ (held2 k) done refl in
-    (omega (arith, turn (in-loop (row q)) .more), held2 k ∙ held q ∙ x .inv .1, o .0, o .1)
+    let next = withParts (registers3 k) (d .0 .0) (d .0 .1 .0) (unit2 t) (x .rest) in
+    let done : completed next 0 (storage3 k) ≡ step (withParts (registers2 (summed t)) (x .pc) (x .sr) (unit2 t) (x .rest)) (lent (storage p)) =
+    laws.in-place (left2 t) (registers3 k) (storage3 k) (k .plain .result) (k .plain .ensures) _ _ (d .1) in
+    let o = laws.goes-on (left2 t) (completedStep next) _ (held3 k) done refl in
+    (omega (arith, turn (in-loop (row p)) .more), held3 k ∙ held p ∙ x .inv .1, o .0, o .1)
 
 same-length-3 : tie.Need-same-length-3 Inv-loop μ-loop
 same-length-3 c =
     let k = c .before .before .before .before .before .before in
-    let p = plain (told3 k) in
-    held3 k ∙ held2 p ∙ held (quick (told p)) ∙ from3 k .loop .inv .1
+    held4 k ∙ from4 k .loop .inv .1
 
 returns-3 : tie.Need-returns-3 Inv-loop μ-loop
 returns-3 c =
     let k = c .before .before .before .before .before .before in
-    let done = laws.performed (left2 (told3 k)) (k .performed .result) _ _ (k .before .before .assembled3 .ensures) (k .performed .ensures) in
+    let done = laws.performed (left3 (told3 k)) (k .performed .result) _ _ (k .before .before .assembled3 .ensures) (k .performed .ensures) in
     let i = c .before .before .is-done in
-    rw (c .ended3 .ensures) (laws.stops-here (left2 (told3 k)) (k .performed .result) _ done (sym (i .ensures) ∙ not-true (i .result) (c .before .if2 .taken)))
+    rw (c .ended3 .ensures) (laws.stops-here (left3 (told3 k)) (k .performed .result) _ done (sym (i .ensures) ∙ not-true (i .result) (c .before .if2 .taken)))
 
 loop-less-4 : tie.Need-loop-less-4 Inv-loop μ-loop
-loop-less-4 c = let k = c .before .before .before .before .before .before .before in omega (arith, turn (in-loop (row (quick (told (plain (told3 k)))))) .more)
+loop-less-4 c = let k = c .before .before .before .before .before .before .before in omega (arith, turn (in-loop (row (placed3 (told3 k)))) .more)
 
 loop-again-4 : tie.Need-loop-again-4 Inv-loop μ-loop
 loop-again-4 c =
     let k = c .before .before .before .before .before .before .before in
-    let p = plain (told3 k) in
-    let q = quick (told p) in
+    let t = told3 k in
     let r = k .performed .result in
     let i = c .before .before .before .is-done in
-    let done = laws.performed (left2 (told3 k)) r _ _ (k .before .before .assembled3 .ensures) (k .performed .ensures) in
-    let o = laws.goes-on (left2 (told3 k)) r _ (held3 k) done (sym (i .ensures) ∙ not-false (i .result) (c .before .before .if2 .left)) in
-    (omega (arith, turn (in-loop (row q)) .more), held3 k ∙ held2 p ∙ held q ∙ from3 k .loop .inv .1, rw (laws.parts (r .cpu)) (o .0), rw (laws.parts (r .cpu)) (o .1))
+    let done = laws.performed (left3 t) r _ _ (k .before .before .assembled3 .ensures) (k .performed .ensures) in
+    let o = laws.goes-on (left3 t) r _ (k .performed .kept .1 .1 .0) done (sym (i .ensures) ∙ not-false (i .result) (c .before .before .if2 .left)) in
+    (omega (arith, turn (in-loop (row (placed3 t))) .more), held4 k ∙ from4 k .loop .inv .1, rw (laws.parts (r .cpu)) (o .0), rw (laws.parts (r .cpu)) (o .1))
 
 returns-4 : tie.Need-returns-4 Inv-loop μ-loop
 returns-4 c =
@@ -266,6 +295,8 @@ advanced-spec =
     (λ c. search needs)
     loop-less
     loop-again
+    (λ c. search needs)
+    (λ c κs. search needs)
     (λ c. search needs)
     loop-less-2
     loop-again-2
