@@ -14,7 +14,7 @@ ghost use Rattle.instructions.specs.Perform.{perform as performOf};
 ghost use Rattle.instructions.specs.Step.{ofRow};
 ghost use Rattle.quick_parts.specs.Effects.{after, agreed};
 
-// In place, or left. Apart from the loop, so that what is rare takes no room there.
+// In place, or left. All but MOVE stands behind the call of `instruction`, so that what is rare takes no room in the loop.
 pub(crate) fn plain(
     row: u8,
     g: &mut [u32; 16],

@@ -1,5 +1,5 @@
-// MOVE with the operands that the loop's bodies leave, done in place: d8(An,Xi) and absolute addresses. Compiled programs have some of
-// these in every loop. It stands apart from the loop, so that it takes no room there, and makes no change in memory to be done afterwards.
+// MOVE with the operands that the other bodies leave, d8(An,Xi) and absolute addresses, done in place. Compiled programs have some of these
+// in every loop, and the plain engine is slow there: it hands their change through memory (docs/PERFORMANCE.md).
 use address::changes::done;
 use address::operands::operand;
 use lines0to3::lines1to3::move_to;
