@@ -24,4 +24,16 @@ extern "C" {
     ) -> u32;
     /// The reply.
     pub fn interrupt(block: *mut u8, block_len: usize, mem: *mut u8, mem_len: usize, vector: u8, level: u8) -> u32;
+    /// Reply + 256 * start address. The text is only read.
+    pub fn srecord_read(text: *const u8, text_len: usize, mem: *mut u8, mem_len: usize) -> u64;
+    /// Reply + 256 * length of the text. The memory is only read.
+    pub fn srecord_write(
+        mem: *const u8,
+        mem_len: usize,
+        from: u32,
+        count: u32,
+        start: u32,
+        text: *mut u8,
+        text_len: usize,
+    ) -> u64;
 }

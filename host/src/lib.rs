@@ -3,7 +3,8 @@
 //! The state of the core is a block of 128 bytes ([`State`] writes and reads it), the memory a byte
 //! slice from address 0, big-endian, of at most 16,777,216 bytes. After [`Reply::Done`] the block
 //! holds the new state (in a run also after a refused step: the state after the steps done);
-//! otherwise block and memory are as they were.
+//! otherwise block and memory are as they were. [`srecord_read`] and [`srecord_write`] fill a memory
+//! from Motorola S-records and write them of it; they take no block.
 //!
 //! ```
 #![doc = include_str!("example.rs")]
@@ -30,10 +31,14 @@ pub enum Reply {
     Masked = 7,
     BadVersion = 8,
     BadLength = 9,
+    Malformed = 10,
+    WrongSum = 11,
+    NoRoom = 16,
 }
 
 impl Reply {
-    pub const ALL: [Reply; 10] = [
+    /// Every reply, by its number; the numbers have gaps.
+    pub const ALL: [Reply; 13] = [
         Reply::Done,
         Reply::MemoryTooLong,
         Reply::NotAdmitted,
@@ -44,20 +49,23 @@ impl Reply {
         Reply::Masked,
         Reply::BadVersion,
         Reply::BadLength,
+        Reply::Malformed,
+        Reply::WrongSum,
+        Reply::NoRoom,
     ];
 
     pub fn number(self) -> u8 {
         self as u8
     }
 
-    /// The reply of a number from 0 to 9.
+    /// The reply that has this number, if one has.
     pub fn of_number(n: u64) -> Option<Reply> {
-        Reply::ALL.get(usize::try_from(n).ok()?).copied()
+        Reply::ALL.into_iter().find(|r| r.number() as u64 == n)
     }
 }
 
 fn reply(n: u64) -> Reply {
-    Reply::of_number(n).expect("the archive answers a number from 0 to 9")
+    Reply::of_number(n).expect("the archive answers the number of a reply")
 }
 
 /// The state of the core.
@@ -192,4 +200,45 @@ pub fn exception_at(block: &mut [u8], mem: &mut [u8], vector: u8, pc: u32, level
 pub fn interrupt(block: &mut [u8], mem: &mut [u8], vector: u8, level: u8) -> Reply {
     // SAFETY: as in `step`.
     reply(unsafe { ffi::interrupt(block.as_mut_ptr(), block.len(), mem.as_mut_ptr(), mem.len(), vector, level) } as u64)
+}
+
+/// Reads S-records into memory. The second value is the start address that the end record gives.
+///
+/// Read are S1, S2 and S3 data, up to an S7, S8 or S9 end; later data wins. S0 and S5 are skipped.
+/// Hex digits may be of either case, and every line ends in LF or CR LF, the last one too. After the
+/// end record only empty lines may stand.
+///
+/// The answer is [`Reply::MemoryTooLong`], or that of the first line that is refused:
+/// [`Reply::Malformed`], then [`Reply::WrongSum`], then [`Reply::Outside`] where a byte of the record
+/// is not inside memory. Without an end record it is [`Reply::Malformed`]. A text that is refused
+/// leaves memory as it was, and the start address is then 0.
+pub fn srecord_read(text: &[u8], mem: &mut [u8]) -> (Reply, u32) {
+    // SAFETY: the pointers and lengths are those of two slices, kept no longer than the call. The
+    // function writes to memory alone, and that slice is exclusive.
+    let n = unsafe { ffi::srecord_read(text.as_ptr(), text.len(), mem.as_mut_ptr(), mem.len()) };
+    (reply(n % 256), (n / 256) as u32)
+}
+
+/// Writes `count` bytes of memory, from address `from` on, as S3 records, and `start` as the S7 end.
+/// The second value is the length of the lines, [`srecord_length`] of `count`; what `text` holds
+/// behind them stays.
+///
+/// A line has 16 data bytes, the last one perhaps fewer, and ends in LF; digits are upper case. An
+/// empty range gives the S7 line alone.
+///
+/// The answer is [`Reply::MemoryTooLong`]; then [`Reply::Outside`] where the range is not inside
+/// memory, also an empty one past its end; then [`Reply::NoRoom`] where `text` is shorter than the
+/// lines. A range that is refused leaves `text` as it was, and the length is then 0.
+pub fn srecord_write(mem: &[u8], from: u32, count: u32, start: u32, text: &mut [u8]) -> (Reply, usize) {
+    // SAFETY: as in `srecord_read`; the function writes to the text alone, and that slice is exclusive.
+    let n = unsafe {
+        ffi::srecord_write(mem.as_ptr(), mem.len(), from, count, start, text.as_mut_ptr(), text.len())
+    };
+    (reply(n % 256), (n / 256) as usize)
+}
+
+/// The bytes that [`srecord_write`] needs for a range of `count` bytes, which is at most
+/// [`MEMORY_LIMIT`]: 15 a line and 2 a byte, and 15 for the end.
+pub fn srecord_length(count: usize) -> usize {
+    15 * count.div_ceil(16) + 2 * count + 15
 }

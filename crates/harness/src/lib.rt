@@ -1,4 +1,4 @@
-// The calls that a host makes in C: a state block and a memory, each a pointer and a length.
+// The calls that a host makes in C: a state block and a memory, or a text and a memory, each a pointer and a length.
 pub mod calls;
 
 use calls::exception as exception_call;
@@ -9,12 +9,15 @@ use calls::rte as rte_call;
 use calls::store_after;
 use machine::run::run as run_call;
 use machine::run::step as step_call;
+use srecord_read::read::read_call;
+use srecord_write::write::write_call;
 use state::replies::is_done;
 use state::replies::number_of;
 ghost use mathlib.Core.Path.{_≡_};
 ghost use Rattle.manual.specs.declared.Level.the-variants.{Kept, To};
 ghost use Rattle.manual.specs.Lent.{lent};
 ghost use Rattle.instructions.specs.HostCalls.{called, exceptionOn, interruptOn, rteOn, stepOn, runOn};
+ghost use Rattle.srecord.specs.TextCalls.{textCalled, readCall, writeCall};
 
 // One step: the number of the reply, and 256 times the vector that was entered.
 #[no_mangle]
@@ -88,4 +91,26 @@ pub extern "C" fn interrupt(block: &mut [u8], mem: &mut [u8], vector: u8, level:
     ensures { λ r. ⌜ called r (now (block .exit)) (now (mem .exit)) ≡ interruptOn (now (block .entry)) (lent (now (mem .entry))) vector level ⌝ }
 {
     interrupt_call(block, mem, vector, level)
+}
+
+// Reads S-records into memory: the number of the reply, and 256 times the start address.
+#[no_mangle]
+pub extern "C" fn srecord_read(text: &[u8], mem: &mut [u8]) -> u64
+    ensures { λ r. ⌜ textCalled r (now (mem .exit)) ≡ readCall (now (text .entry)) (now (mem .entry)) ⌝ }
+{
+    read_call(text, mem)
+}
+
+// Writes a range of memory as S-records: the number of the reply, and 256 times the count of bytes that were written.
+#[no_mangle]
+pub extern "C" fn srecord_write(
+    mem: &[u8],
+    from: u32,
+    count: u32,
+    start: u32,
+    text: &mut [u8],
+) -> u64
+    ensures { λ r. ⌜ textCalled r (now (text .exit)) ≡ writeCall (now (mem .entry)) from count start (now (text .entry)) ⌝ }
+{
+    write_call(mem, from, count, start, text)
 }
