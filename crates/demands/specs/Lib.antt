@@ -36,3 +36,5 @@ pub mod Admits
 pub mod Units
 pub mod Determined
 pub mod HostSentences
+pub mod RecordLaws
+pub mod SRecords
