@@ -96,8 +96,10 @@ def kept(module, name):
 
 
 @functools.cache
-def fields(crate, name):
-    """The fields of a struct of the crate."""
+def fields(function, name):
+    """The fields of a struct: of the function's crate, or of the one that its file takes the struct from."""
+    taken = re.search(rf"^use (?!super|crate)(\w+)::{re.escape(name)};", open(function.file).read(), re.M)
+    crate = taken.group(1) if taken else function.crate
     for file in glob.glob(f"crates/{crate}/src/**/*.rt", recursive=True):
         for body in re.findall(rf"\bstruct {re.escape(name)} \{{([^}}]*)\}}", open(file).read()):
             return {"." + field for field in re.findall(r"(\w+)\s*:", body)}
@@ -178,7 +180,7 @@ class Contract:
         for name in sorted(self.lent):
             if name + ".exit" not in told:
                 raise Fault(f"its equation says nothing of {name} at exit")
-        each = fields(self.function.crate, self.type) if self.type else set()
+        each = fields(self.function, self.type) if self.type else set()
         if self.type and self.answer not in told and not (each and each <= told):
             raise Fault("its equation does not have the whole answer")
 

@@ -1,7 +1,9 @@
 // Runs the image file on standard input, and prints what came of it.
-use image::run::answer;
+mod run;
+
 use libc::STDIN_FILENO;
 use libc::STDOUT_FILENO;
+use run::answer;
 
 fn main() {
     // A file that does not fit is longer than an image can be, and what fits of it gets the same reply.

@@ -1,7 +1,6 @@
 // The image file: from bytes to a machine, and from a run to its text.
 pub mod file;
 pub mod print;
-pub mod run;
 
 use manual::Cpu;
 use manual::Reply;

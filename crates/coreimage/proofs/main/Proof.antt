@@ -1,6 +1,6 @@
 -- `coreimage::main` meets its contract: the text lies in its bytes. Assumes nothing.
 use borrow.Author.Needs.{needs}
-use Rattle.image.specs.TextLaws.{text-inside, text-counted}
+use Rattle.coreimage.proofs.AnswerLaws.{text-inside, text-counted}
 use Rattle.coreimage.proofs.main.Statement.{statement}
 use Rattle.coreimage.proofs.main.Tie as tie
 

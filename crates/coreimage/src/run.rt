@@ -1,8 +1,8 @@
 // What the program `coreimage` does with the bytes that it was given.
-use super::Text;
-use super::file::read_image;
-use super::print::answer_text;
-use super::print::run_text;
+use image::Text;
+use image::file::read_image;
+use image::print::answer_text;
+use image::print::run_text;
 use machine::run::run;
 use state::replies::is_done;
 ghost use mathlib.Core.Path.{_≡_};

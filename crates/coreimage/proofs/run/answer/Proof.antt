@@ -1,10 +1,10 @@
--- `image::run::answer` meets its contract. Assumes nothing.
+-- `coreimage::run::answer` meets its contract. Assumes nothing.
 use mathlib.Core.Path.{sym, _∙_}
 use borrow.Author.Needs.{needs}
 use borrow.Author.Tests.{not-true, not-false}
-use Rattle.image.proofs.AnswerLaws.{refused-is, ran-is}
-use Rattle.image.proofs.run.answer.Statement.{statement}
-use Rattle.image.proofs.run.answer.Tie as tie
+use Rattle.coreimage.proofs.AnswerLaws.{refused-is, ran-is}
+use Rattle.coreimage.proofs.run.answer.Statement.{statement}
+use Rattle.coreimage.proofs.run.answer.Tie as tie
 
 returns : tie.Need-returns
 returns c =
