@@ -8,8 +8,28 @@ lacks() {
     exit 2
 }
 
-# Sets `rust`, the compiler's words, and `emulator`, empty where none is needed. Debian's compiler is also asked: another one that
-# stands before it on the PATH may have no library for x86-64.
+# Sets `c`, the compiler and linker for x86-64, and `emulator`, empty where none is needed.
+find_c() {
+    local packages='gcc and libc6-dev'
+    c=gcc
+    if [ "$(uname -m)" != x86_64 ]; then
+        c=x86_64-linux-gnu-gcc
+        packages='gcc-x86-64-linux-gnu and libc6-dev:amd64 (after dpkg --add-architecture amd64)'
+    fi
+    command -v "$c" >/dev/null || lacks "there is no C compiler and linker for x86-64: install $packages"
+    # A library that is not found is answered with its bare name.
+    [ -e "$("$c" -print-file-name=libc.a)" ] || lacks "there is no C library for x86-64: install $packages"
+    emulator=
+    [ "$(uname -m)" != x86_64 ] || return 0
+    command -v rt >/dev/null || lacks "rt, whose emulator runs programs for x86-64, is not on the PATH"
+    emulator=$(cd "$(dirname "$(rt doc)")/.." && pwd)/on/$(uname -m)/toolchain/bin/qemu-x86_64
+    # The C library copies by `rep movsb` where the processor is said to do that fast; the emulator does not.
+    export QEMU_CPU=max,-erms,-fsrm
+    [ -x "$emulator" ] || lacks "$emulator, which runs programs for x86-64, is not there"
+}
+
+# Sets `rust`, the compiler's words, and `emulator`. Debian's compiler is also asked: another one that stands before it on the
+# PATH may have no library for x86-64.
 find_rust() {
     local compiler target=x86_64-unknown-linux-gnu
     for compiler in rustc /usr/bin/rustc; do
@@ -20,14 +40,8 @@ find_rust() {
     emulator=
     [ "$(uname -m)" != x86_64 ] || return 0
     [ -d "$("$compiler" --print sysroot)/lib/rustlib/$target/lib" ] || lacks "rustc has no standard library for x86-64: install rustc-web and libstd-rust-web-dev:amd64 (after dpkg --add-architecture amd64)"
-    command -v x86_64-linux-gnu-gcc >/dev/null || lacks "there is no linker for x86-64: install gcc-x86-64-linux-gnu"
-    [ -e /usr/lib/x86_64-linux-gnu/libc.a ] || [ -e /usr/x86_64-linux-gnu/lib/libc.a ] || lacks "there is no C library for x86-64: install libc6-dev:amd64"
-    command -v rt >/dev/null || lacks "rt, whose emulator runs programs for x86-64, is not on the PATH"
-    emulator=$(cd "$(dirname "$(rt doc)")/.." && pwd)/on/$(uname -m)/toolchain/bin/qemu-x86_64
-    # The C library copies by `rep movsb` where the processor is said to do that fast; the emulator does not.
-    export QEMU_CPU=max,-erms,-fsrm
-    [ -x "$emulator" ] || lacks "$emulator, which runs programs for x86-64, is not there"
-    rust+=(--target "$target" -C linker=x86_64-linux-gnu-gcc)
+    find_c
+    rust+=(--target "$target" -C linker="$c")
 }
 
 # A path that was given is meant from where the script was called.
@@ -60,4 +74,10 @@ build() {
         set -- "$@" --cfg original
     fi
     OUT_DIR=$(cd "$2" && pwd) "${rust[@]}" --crate-name "$1" "src/bin/$1.rs" --extern host="$2/libhost.rlib" "${@:3}" -o "$2/$1"
+}
+
+# build_c PROGRAM FOLDER [PART..]: compiles srecords/PROGRAM.c, and the parts beside it, over the archive to FOLDER/PROGRAM.
+build_c() {
+    mkdir -p "$2"
+    "$c" -O2 -Wall -Wextra -static "srecords/$1.c" "${@:3}" "$archive/libharness.a" -o "$2/$1"
 }
