@@ -1,4 +1,6 @@
-"""The functions of the Rattle files below crates/, and the edits of crates/*/must-fail. Not a command: the tools beside it use it."""
+"""The functions of the Rattle files below crates/, and the edits of crates/*/must-fail and of crates/demands/wrong-claims. Not a command:
+the tools beside it use it.
+"""
 import glob
 import os
 import re
@@ -79,12 +81,14 @@ class Edit:
     """An edit: its `label` (crate/name), and `places`, a (file, offset, old) for each text of a source file that it replaces."""
 
     def __init__(self, path):
-        crate, name = path.split("/")[1], os.path.basename(path)[: -len(".edit")]
+        _, crate, folder, name = path[: -len(".edit")].split("/")
+        # the toolchain reads those of must-fail, whose files are the crate's own; tools/wrong-definitions the others
+        base = f"crates/{crate}" if folder == "must-fail" else "crates"
         self.label, self.places, self.faults = f"{crate}/{name}", [], []
         file = old = None
         for line in open(path).read().split("\n"):
             if line.startswith("file: "):
-                file = os.path.join("crates", crate, line[len("file: ") :])
+                file = os.path.join(base, line[len("file: ") :])
             elif line.startswith("old: "):
                 old = line[len("old: ") :]
             elif line.startswith("new:") and old is not None:
@@ -96,5 +100,5 @@ class Edit:
 
 
 def edits():
-    """Every edit of every crate."""
-    return [Edit(path) for path in sorted(glob.glob("crates/*/must-fail/*.edit"))]
+    """Every edit of every crate, but for wrong definitions."""
+    return [Edit(path) for path in sorted(glob.glob("crates/*/must-fail/*.edit") + glob.glob("crates/demands/wrong-claims/*.edit"))]
