@@ -5,7 +5,8 @@ use mathlib.Core.Path.{_≡_, refl, sym, ap, _∙_}
 use mathlib.Core.Bool.{Bool, true, false, cond, _&&_}
 use mathlib.Core.List.{List, [], _∷_}
 use native.Mathlib.Omega.{arith}
-use borrow.Author.Tests.{ltb-true, lt-ltb, le-ltb, leb-true, eqb-true, eq-eqb, ne-eqb}
+use mir.Val.{boolByte}
+use borrow.Author.Tests.{ltb-true, lt-ltb, leb-true, eqb-true, eq-eqb, ne-eqb}
 use lib.Dec.{eqb, ltb, leb}
 use lib.ListN.{length, getD, take, drop, drop-of-length-le, length-drop}
 use lib.Seq.{drop-cons, take-all}
@@ -25,6 +26,76 @@ both : (a b : Bool) → (a && b) ≡ true → (a ≡ true) × (b ≡ true)
 both true b e = (refl, e)
 both false b e = no e
 
+-- ---- a digit
+
+-- tests as numbers: two of them multiplied
+pub both-one : (a b : Bool) → boolByte a * boolByte b ≡ cond (a && b) 1 0
+both-one true true = refl
+both-one true false = refl
+both-one false b = omega arith
+
+pub at-most-one : (b : Bool) → cond b 1 0 ≤ 1
+at-most-one true = omega arith
+at-most-one false = omega arith
+
+pub small-product : (r v : ℕ) → r ≤ 1 → v ≤ 1 → r * v ≤ 1
+small-product zero v h k = omega arith
+small-product (suc zero) v h k = omega arith
+small-product (suc (suc r)) v h k = absurd (omega arith)
+
+module _ (c : ℕ) where
+  abbrev pub number : Bool
+  number = leb 48 c && leb c 57
+
+  abbrev pub upper : Bool
+  upper = leb 65 c && leb c 70
+
+  abbrev pub lower : Bool
+  lower = leb 97 c && leb c 102
+
+  -- a character is in one of the three ranges, or in none
+  data Ranged : Bool → Bool → Bool → Type 0 where
+    is-number : 48 ≤ c → c ≤ 57 → Ranged true false false
+    is-upper : 65 ≤ c → c ≤ 70 → Ranged false true false
+    is-lower : 97 ≤ c → c ≤ 102 → Ranged false false true
+    is-none : Ranged false false false
+
+  within : (a b : ℕ) → (leb a c && leb c b) ≡ true → (a ≤ c) × (c ≤ b)
+  within a b e = let f = both (leb a c) _ e in (leb-true a c (f .0), leb-true c b (f .1))
+
+  ranged : Ranged number upper lower
+  ranged = by number refl upper refl lower refl
+    where
+      by : (n : Bool) → number ≡ n → (u : Bool) → upper ≡ u → (l : Bool) → lower ≡ l → Ranged n u l
+      by true e true f l g = absurd (omega (arith, within 48 57 e .1, within 65 70 f .0))
+      by true e false f true g = absurd (omega (arith, within 48 57 e .1, within 97 102 g .0))
+      by true e false f false g = is-number (within 48 57 e .0) (within 48 57 e .1)
+      by false e true f true g = absurd (omega (arith, within 65 70 f .1, within 97 102 g .0))
+      by false e true f false g = is-upper (within 65 70 f .0) (within 65 70 f .1)
+      by false e false f true g = is-lower (within 97 102 g .0) (within 97 102 g .1)
+      by false e false f false g = is-none
+
+  pub one-range : cond number 1 0 + cond upper 1 0 + cond lower 1 0 ≡ cond (ltb (worth c) 16) 1 0
+  unfolding worth
+  one-range = by ranged
+    where
+      by : {n u l : Bool} → Ranged n u l → cond n 1 0 + cond u 1 0 + cond l 1 0 ≡ cond (ltb (cond n (c - 48) (cond u (c - 55) (cond l (c - 87) 16))) 16) 1 0
+      by (is-number a b) = rw (lt-ltb (c - 48) 16 (omega arith))
+      by (is-upper a b) = rw (lt-ltb (c - 55) 16 (omega arith))
+      by (is-lower a b) = rw (lt-ltb (c - 87) 16 (omega arith))
+      by is-none = refl
+
+  pub digit-worth : worth c < 16 → c % 16 + 9 * (c / 64) ≡ worth c
+  unfolding worth
+  digit-worth = by ranged
+    where
+      by : {n u l : Bool} → Ranged n u l → cond n (c - 48) (cond u (c - 55) (cond l (c - 87) 16)) < 16
+          → c % 16 + 9 * (c / 64) ≡ cond n (c - 48) (cond u (c - 55) (cond l (c - 87) 16))
+      by (is-number a b) h = omega arith
+      by (is-upper a b) h = omega arith
+      by (is-lower a b) h = omega arith
+      by is-none h = absurd (omega arith)
+
 -- ---- digits two by two
 
 drop-two : (t : List ℕ) (i : ℕ) → i + 1 < length t → drop i t ≡ getD t i 0 ∷ getD t (i + 1) 0 ∷ drop (i + 2) t
@@ -33,41 +104,86 @@ drop-two t i h =
     let f : suc (i + 1) ≡ i + 2 = omega arith in
     drop-cons t i 0 (omega arith) ∙ rw (e, drop-cons t (i + 1) 0 h, f)
 
-module _ (t : List ℕ) (i : ℕ) (h : i + 1 < length t) where
-  pub hex-next : worth (getD t i 0) < 16 → worth (getD t (i + 1) 0) < 16 → isHex (drop i t) ≡ isHex (drop (i + 2) t)
-  unfolding isHex
-  hex-next a b = rw (drop-two t i h, lt-ltb _ _ a, lt-ltb _ _ b)
+-- i digits of t are done: whether they are hex, as a number, and the low byte of their bytes' sum
+pub record Scanned (t : List ℕ) (i right sum : ℕ) : Type 0 where
+  pub one : right ≤ 1
+  pub low : sum < 256
+  pub hex : cond (eqb right 1) (isHex (drop i t)) false ≡ isHex t
+  pub sums : right ≡ 1 → (sum + total (unhexed (drop i t))) % 256 ≡ total (unhexed t) % 256
 
-  pub hex-first : 16 ≤ worth (getD t i 0) → isHex (drop i t) ≡ false
-  unfolding isHex
-  hex-first a = rw (drop-two t i h, le-ltb _ _ a)
+pub scan-start : (t : List ℕ) → Scanned t 0 1 0
+scan-start t = record { one = omega arith; low = omega arith; hex = refl; sums = λ e. over (total (unhexed t)) }
+  where
+    over : (n : ℕ) → (0 + n) % 256 ≡ n % 256
+    over n = omega arith
 
-  pub hex-second : worth (getD t i 0) < 16 → 16 ≤ worth (getD t (i + 1) 0) → isHex (drop i t) ≡ false
-  unfolding isHex
-  hex-second a b = rw (drop-two t i h, lt-ltb _ _ a, le-ltb _ _ b)
+same : (b : Bool) → cond b false false ≡ false
+same true = refl
+same false = refl
 
-  pub scan-next : (s w : ℕ) → (s + total (unhexed (drop i t))) % 256 ≡ w
-      → ((s + worth (getD t i 0) * 16 + worth (getD t (i + 1) 0)) % 256 + total (unhexed (drop (i + 2) t))) % 256 ≡ w
-  unfolding unhexed total
-  scan-next s w g =
-      over s (worth (getD t i 0)) (worth (getD t (i + 1) 0)) (total (unhexed (drop (i + 2) t))) ∙ (rw (drop-two t i h) at g)
+module _ (t : List ℕ) (i right sum : ℕ) (s : Scanned t i right sum) where
+  module _ (h : i + 1 < length t) where
+    abbrev first : ℕ
+    first = worth (getD t i 0)
+
+    abbrev second : ℕ
+    second = worth (getD t (i + 1) 0)
+
+    hex-two : isHex (drop i t) ≡ ((ltb first 16 && ltb second 16) && isHex (drop (i + 2) t))
+    unfolding isHex
+    hex-two = rw (drop-two t i h)
+
+    sum-two : (x y w : ℕ) → x ≡ first → y ≡ second → (sum + total (unhexed (drop i t))) % 256 ≡ w
+        → ((sum + x * 16 + y) % 256 + total (unhexed (drop (i + 2) t))) % 256 ≡ w
+    unfolding unhexed total
+    sum-two x y w e f g = rw (e, f) (over sum first second (total (unhexed (drop (i + 2) t))) ∙ (rw (drop-two t i h) at g))
+      where
+        over : (s a b r : ℕ) → ((s + a * 16 + b) % 256 + r) % 256 ≡ (s + (a * 16 + b + r)) % 256
+        over s a b r = omega arith
+
+    -- a digit that is none
+    wrong : (v : ℕ) → ((ltb first 16 && ltb second 16) ≡ false) → Scanned t (i + 2) 0 (v % 256)
+    wrong v e =
+        record { one = omega arith; low = omega arith; hex = sym (same (eqb right 1)) ∙ (rw (hex-two, e) at (s .hex)); sums = λ z. absurd (omega arith) }
+
+    pub scan-next : (x y : ℕ) → (first < 16 → x ≡ first) → (second < 16 → y ≡ second)
+        → Scanned t (i + 2) (right * cond (ltb first 16) 1 0 * cond (ltb second 16) 1 0) ((sum + x * 16 + y) % 256)
+    scan-next x y e f = by (ltb first 16) refl (ltb second 16) refl
+      where
+        by : (p : Bool) → ltb first 16 ≡ p → (q : Bool) → ltb second 16 ≡ q → Scanned t (i + 2) (right * cond p 1 0 * cond q 1 0) ((sum + x * 16 + y) % 256)
+        by true p true q =
+            let r : right * 1 * 1 ≡ right = omega arith in
+            rw r
+            record {
+              one = s .one;
+              low = omega arith;
+              hex = rw (hex-two, p, q) at (s .hex);
+              sums = λ z. sum-two x y _ (e (ltb-true _ _ p)) (f (ltb-true _ _ q)) (s .sums z);
+            }
+        by true p false q = let r : right * 1 * 0 ≡ 0 = omega arith in rw r (wrong _ (rw (p, q)))
+        by false p true q = let r : right * 0 * 1 ≡ 0 = omega arith in rw r (wrong _ (rw p))
+        by false p false q = let r : right * 0 * 0 ≡ 0 = omega arith in rw r (wrong _ (rw p))
+
+  pub scan-end : length t ≤ i → (eqb right 1 ≡ isHex t) × (eqb right 1 ≡ true → sum ≡ total (unhexed t) % 256)
+  unfolding isHex unhexed total
+  scan-end l = (sym (itself (eqb right 1)) ∙ (rw (drop-of-length-le t l) at (s .hex)), λ e. low-sum (s .low) (rw (drop-of-length-le t l) at (s .sums (eqb-true right 1 e))))
     where
-      over : (s a b r : ℕ) → ((s + a * 16 + b) % 256 + r) % 256 ≡ (s + (a * 16 + b + r)) % 256
-      over s a b r = omega arith
+      itself : (b : Bool) → cond b true false ≡ b
+      itself true = refl
+      itself false = refl
 
-pub hex-odd : (t : List ℕ) (i : ℕ) → i < length t → length t ≤ i + 1 → isHex (drop i t) ≡ false
+      low-sum : {w : ℕ} → sum < 256 → (sum + 0) % 256 ≡ w → sum ≡ w
+      low-sum h e = omega arith
+
+neither : (b : Bool) → (b && false) ≡ false
+neither true = refl
+neither false = refl
+
+pub hex-odd : (t : List ℕ) → (length t % 2 ≡ 0 → ⊥) → isHex t ≡ false
 unfolding isHex
-hex-odd t i h l =
-    let e : suc i ≡ i + 1 = omega arith in
-    rw (drop-cons t i 0 h, e, drop-of-length-le t l)
-
-pub hex-end : (t : List ℕ) (i : ℕ) → length t ≤ i → isHex (drop i t) ≡ true
-unfolding isHex
-hex-end t i l = rw (drop-of-length-le t l)
-
-pub scan-end : (t : List ℕ) (i s w : ℕ) → length t ≤ i → s < 256 → (s + total (unhexed (drop i t))) % 256 ≡ w → s ≡ w
-unfolding unhexed total
-scan-end t i s w l h g = let e : (s + 0) % 256 ≡ w = rw (drop-of-length-le t l) at g in omega arith
+hex-odd [] h = absurd (h refl)
+hex-odd (a ∷ []) h = refl
+hex-odd (a ∷ b ∷ t) h = rw (hex-odd t (λ e. h (omega arith))) (neither (ltb (worth a) 16 && ltb (worth b) 16))
 
 -- ---- the bytes
 
@@ -87,7 +203,7 @@ byte-of (a ∷ b ∷ t) (suc k) h =
     let f : suc (suc (2 * k)) + 1 ≡ suc (suc (2 * k + 1)) = omega arith in
     rw (e, f) (byte-of t k (omega arith))
 
-hex-at : (t : List ℕ) (j : ℕ) → isHex t ≡ true → j < length t → worth (getD t j 0) < 16
+pub hex-at : (t : List ℕ) (j : ℕ) → isHex t ≡ true → j < length t → worth (getD t j 0) < 16
 unfolding isHex
 hex-at [] j e h = absurd (omega arith)
 hex-at (a ∷ []) j e h = no e

@@ -1,59 +1,55 @@
 // The digits of a record, and the bytes that they are.
 use super::Scan;
 ghost use mathlib.Core.Path.{_≡_};
-ghost use mathlib.Core.Bool.{true};
+ghost use mathlib.Core.Bool.{true, cond, _&&_};
 ghost use Prim.Native.Nat.{_+_, _*_, _%_, _≤_, _<_};
+ghost use lib.Dec.{leb, ltb};
 ghost use lib.ListN.{length, getD};
 ghost use Rattle.manual.specs.Memory.{valueAt};
 ghost use Rattle.srecord.specs.Records.{worth as worthOf, isHex, unhexed, total};
 
-fn worth(c: u8) -> u8
-    ensures { λ r. ⌜ (r ≡ worthOf c) × (r ≤ 16) ⌝ }
+// 1 for a character from one to another, 0 for any other. A number and no branch: no processor foresees which digits are letters.
+fn between(from: u8, c: u8, to: u8) -> u8
+    ensures { λ r. ⌜ r ≡ cond (leb from c && leb c to) 1 0 ⌝ }
 {
-    if c < 48 {
-        return 16;
-    }
-    if c <= 57 {
-        return c - 48;
-    }
-    if c < 65 {
-        return 16;
-    }
-    if c <= 70 {
-        return c - 55;
-    }
-    if c < 97 {
-        return 16;
-    }
-    if c <= 102 {
-        return c - 87;
-    }
-    16
+    (from <= c) as u8 * (c <= to) as u8
 }
 
-// Whether digits are pairs of hex digits, and the low byte of their bytes' sum.
+// 1 for a hex digit, 0 for any other character.
+fn is_digit(c: u8) -> u8
+    ensures { λ r. ⌜ (r ≡ cond (ltb (worthOf c) 16) 1 0) × (r ≤ 1) ⌝ }
+{
+    between(b'0', c, b'9') + between(b'A', c, b'F') + between(b'a', c, b'f')
+}
+
+// What a digit is worth. The low four bits of a letter are 1 to 6, and it lies above 64.
+fn worth(c: u8) -> u8
+    ensures { λ r. ⌜ (worthOf c < 16 → r ≡ worthOf c) × (r ≤ 42) ⌝ }
+{
+    c % 16 + 9 * (c / 64)
+}
+
+// Whether digits are pairs of hex digits, and the low byte of their bytes' sum. A wrong one does not end the loop: without branches
+// the compiler takes many pairs at a time.
 pub(crate) fn scan(digits: &[u8]) -> Scan
     ensures { λ r. ⌜ (r .hex ≡ isHex (now (digits .entry))) × (r .hex ≡ true → r .sum ≡ total (unhexed (now (digits .entry))) % 256) ⌝ }
 {
-    let mut sum: u32 = 0;
-    let mut i: usize = 0;
-    while i + 1 < digits.len() {
-        let a = worth(digits[i]);
-        let b = worth(digits[i + 1]);
-        if 16 <= a {
-            return Scan { hex: false, sum: 0 };
-        }
-        if 16 <= b {
-            return Scan { hex: false, sum: 0 };
-        }
-        sum = (sum + a as u32 * 16 + b as u32) % 256;
-        i += 2;
-    }
-    if i < digits.len() {
+    if digits.len() % 2 != 0 {
         return Scan { hex: false, sum: 0 };
     }
+    let n = digits.len() / 2;
+    let mut right: u8 = 1;
+    let mut sum: u32 = 0;
+    let mut i: usize = 0;
+    while i < n {
+        let a = digits[2 * i];
+        let b = digits[2 * i + 1];
+        right = right * is_digit(a) * is_digit(b);
+        sum = (sum + worth(a) as u32 * 16 + worth(b) as u32) % 256;
+        i += 1;
+    }
     Scan {
-        hex: true,
+        hex: right == 1,
         sum: sum,
     }
 }
