@@ -22,31 +22,17 @@ ghost use Rattle.srecord_line.specs.Places.{width, checkOf, skippedOf, f
 fn kind_of(d: u8) -> Kind
     ensures { λ r. ⌜ (r ≡ kindOf d) × (2 ≤ width r) × (width r ≤ 4) ⌝ }
 {
-    if d == b'0' {
-        return Kind::Skipped(2);
+    match d {
+        b'0' => Kind::Skipped(2),
+        b'1' => Kind::Data(2),
+        b'2' => Kind::Data(3),
+        b'3' => Kind::Data(4),
+        b'5' => Kind::Skipped(2),
+        b'7' => Kind::End(4),
+        b'8' => Kind::End(3),
+        b'9' => Kind::End(2),
+        _ => Kind::Unknown,
     }
-    if d == b'1' {
-        return Kind::Data(2);
-    }
-    if d == b'2' {
-        return Kind::Data(3);
-    }
-    if d == b'3' {
-        return Kind::Data(4);
-    }
-    if d == b'5' {
-        return Kind::Skipped(2);
-    }
-    if d == b'7' {
-        return Kind::End(4);
-    }
-    if d == b'8' {
-        return Kind::End(3);
-    }
-    if d == b'9' {
-        return Kind::End(2);
-    }
-    Kind::Unknown
 }
 
 // The form, as far as it is not asked for by `form`, and the sum.
