@@ -44,13 +44,13 @@ small-product (suc zero) v h k = omega arith
 small-product (suc (suc r)) v h k = absurd (omega arith)
 
 module _ (c : ℕ) where
-  abbrev pub number : Bool
+  abbrev number : Bool
   number = leb 48 c && leb c 57
 
-  abbrev pub upper : Bool
+  abbrev upper : Bool
   upper = leb 65 c && leb c 70
 
-  abbrev pub lower : Bool
+  abbrev lower : Bool
   lower = leb 97 c && leb c 102
 
   -- a character is in one of the three ranges, or in none

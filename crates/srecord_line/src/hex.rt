@@ -10,7 +10,7 @@ ghost use Rattle.srecord.specs.Records.{worth as worthOf, isHex, unhexed, total
 
 // 1 for a character from one to another, 0 for any other. A number and no branch: no processor foresees which digits are letters.
 fn between(from: u8, c: u8, to: u8) -> u8
-    ensures { λ r. ⌜ r ≡ cond (leb from c && leb c to) 1 0 ⌝ }
+    ensures { λ r. ⌜ (r ≡ cond (leb from c && leb c to) 1 0) × (r ≤ 1) ⌝ }
 {
     (from <= c) as u8 * (c <= to) as u8
 }

@@ -1,5 +1,6 @@
 -- `srecord_line::hex::between` meets its contract. Assumes nothing.
 use native.Mathlib.Omega.{arith}
+use mathlib.Core.Path.{refl}
 use mathlib.Core.Bool.{_&&_}
 use lib.Dec.{leb}
 use Rattle.srecord_line.proofs.LineLaws.{both-one, at-most-one}
@@ -11,7 +12,7 @@ mul-result : tie.Need-mul-result
 mul-result c = let a = c .args in rw both-one (omega (arith, at-most-one (leb (a .from) (a .c) && leb (a .c) (a .to))))
 
 returns : tie.Need-returns
-returns c = rw both-one
+returns c = let a = c .args in rw both-one (refl, at-most-one (leb (a .from) (a .c) && leb (a .c) (a .to)))
 
 pub between-spec : {M : Type 1} → statement M
 between-spec =
