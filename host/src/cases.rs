@@ -253,9 +253,6 @@ pub fn write_code(r: &mut Random, mem: &mut [u8], pc: u32, op: u16) {
     }
     if op & 0xF100 == 0xA000 {
         words[0] = r.word();
-        if r.of_100(90) {
-            words[0] |= 0x0800;
-        }
         if r.of_100(80) {
             words[1] = near(r);
         }
@@ -323,7 +320,7 @@ pub fn program(r: &mut Random, mem: &mut [u8], from: u32) {
     let share = r.pick(&[0, 90, 98]);
     while (at as usize) < mem.len() {
         let op = if r.of_100(share) { tame(r) } else { likely(r) };
-        let words: &[u16] = if op & 0xF100 == 0xA000 { &[op, r.word() | 0x800] } else { &[op] };
+        let words: &[u16] = if op & 0xF100 == 0xA000 { &[op, r.word()] } else { &[op] };
         for w in words {
             put(mem, at, &w.to_be_bytes());
             at = at.wrapping_add(2);

@@ -13,10 +13,11 @@ pub struct Program {
 
 /// What `coreimage` has.
 const MEMORY: usize = 49_152;
-const LOOPS: [(&str, &[u8]); 4] = [
+const LOOPS: [(&str, &[u8]); 5] = [
     ("search", include_bytes!("../programs/search.image")),
     ("copy", include_bytes!("../programs/copy.image")),
     ("dot", include_bytes!("../programs/dot.image")),
+    ("dot-words", include_bytes!("../programs/dot-words.image")),
     ("compiled", include_bytes!("../programs/compiled.image")),
 ];
 const ENDING: [(&str, &[u8]); 2] = [

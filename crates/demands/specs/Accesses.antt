@@ -24,7 +24,7 @@ use Rattle.manual.specs.declared.Reached.{Reached}
 use Rattle.manual.specs.declared.Reached.the-variants.{At, NoAddress}
 use Rattle.manual.specs.declared.Level.{Level}
 use Rattle.manual.specs.Word.{bytes, plus, minus, signExtended}
-use Rattle.manual.specs.Fields.{bits, line, upper, upperMode, mode, register, sizeField, byteOrWord, lowByte, wordOperands}
+use Rattle.manual.specs.Fields.{bits, line, upper, upperMode, mode, register, sizeField, byteOrWord, lowByte}
 use Rattle.manual.specs.Registers.{addressOf}
 use Rattle.manual.specs.Memory.{Memory, access, taken, numberAt}
 use Rattle.manual.specs.Address.{operand, operandOf, extension, locate, control}
@@ -268,8 +268,7 @@ module _ (g : List ℕ) (at : ℕ) (m : Memory) (op : ℕ) where
       [])
       (placeIn first row) none
 
-  -- MAC and MSAC: the second word w; and the long of the parallel load, in modes 2 to 5 where w says a long operand. Mode 5 has its
-  -- displacement before it
+  -- MAC and MSAC: the second word w; and the long of the parallel load, in modes 2 to 5. Mode 5 has its displacement before it
   abbrev pub loadReads : ℕ → ℕ → List Wanted
   loadReads mask w =
       cond (eqb (mode op) 5)
@@ -280,7 +279,7 @@ module _ (g : List ℕ) (at : ℕ) (m : Memory) (op : ℕ) where
   macReads mask =
       let w : ℕ = numberAt m (plus at 2) Word in
       wordAt (plus at 2)
-      ++ cond (eqb (bits 5 4 op) 0) none (cond (ltb 5 (mode op)) none (cond (wordOperands w) none (loadReads mask w)))
+      ++ cond (eqb (bits 5 4 op) 0) none (cond (ltb 5 (mode op)) none (loadReads mask w))
 
   unfoldable pub readsA : ℕ → ℕ → List Wanted
   readsA mask row =

@@ -5,7 +5,7 @@ use mathlib.Core.Bool.{Bool, true, false, cond}
 use mathlib.Core.List.{List, [], _∷_, _++_}
 use mathlib.Core.Logic.{_⊎_, inl, inr}
 use native.Mathlib.Omega.{arith}
-use lib.Dec.{eqb}
+use lib.Dec.{eqb, ltb}
 use lib.ListN.{getD}
 use borrow.Author.Tests.{eqb-true}
 use Rattle.manual.specs.declared.Size.{Size}
@@ -28,7 +28,7 @@ use Rattle.manual.specs.declared.Sum.{Sum}
 use Rattle.manual.specs.declared.Write.{Write}
 use Rattle.manual.specs.declared.Quotient.{Quotient}
 use Rattle.manual.specs.declared.Change.{Change}
-use Rattle.manual.specs.Word.{plus, signExtended}
+use Rattle.manual.specs.Word.{plus, minus, signExtended}
 use Rattle.manual.specs.Bits.{logic, bitOf, withBit, changedBit}
 use Rattle.manual.specs.Flags.{moveCodes, sumCodes, sumOrDifference}
 use Rattle.manual.specs.Fields.{bits, upper, upperMode, mode, register, sizeField, byteOrWord, bitOperator, lowByte, lowFour, accField, extField}
@@ -59,17 +59,14 @@ use Rattle.demands.specs.Accesses.{Wanted, none, wordAt, longAt, words, 
 use Rattle.demands.specs.FitLaws.{moved-long}
 use Rattle.demands.specs.Effects as eff
 use Rattle.demands.specs.Effects.{Effect, nothing, storesMany, loadsMany, enters, returns, illegalWord, privileged, zero-divide, violation, line-a, line-f, trapped}
-use Rattle.demands.specs.PartLaws.{quiet, Does, does-nothing, does-store, does-push, does-store-many, does-load-many, does-enter, does-return, accessAll, Made, illegal-does, privilege-does, cond-made, either-made, either-quiet, load-made, missing, missing-found, unreached, reading-only, locate-made, put-made, locating-made, source-made, source-only, of-data, missing-immediate, control-missed, reaching-made, end, row, out, listed, all-made, put-to-made, destination-found, destination-made, updating-made}
+use Rattle.demands.specs.PartLaws.{quiet, Does, does-nothing, does-store, does-push, does-store-many, does-load-many, does-enter, does-return, accessAll, Made, illegal-does, privilege-does, cond-made, either-made, either-reads, either-quiet, load-made, missing, missing-found, unreached, reading-only, locate-made, put-made, locating-made, source-made, source-only, of-data, missing-immediate, control-missed, reaching-made, end, row, out, listed, all-made, put-to-made, destination-found, destination-made, updating-made}
 
--- the rows MOVEC_READ, MOVEC_WRITE and MAC, which have words that are not carried, by their places in their lines
+-- the rows MOVEC_READ and MOVEC_WRITE, which are not carried, by their places in line 4
 abbrev pub movecRead : ℕ
 movecRead = firstRow 4 + 4
 
 abbrev pub movecWrite : ℕ
 movecWrite = firstRow 4 + 5
-
-abbrev pub macRow : ℕ
-macRow = firstRow 0xA + 11
 
 module _ (g : List ℕ) (at sr : ℕ) (m : Memory) (op : ℕ) where
   abbrev Makes : List Wanted → Effect → Change → Type 0
@@ -622,10 +619,37 @@ module _ (g : List ℕ) (at sr : ℕ) (m : Memory) (op : ℕ) where
   unfolding la.unassigned source
   unassigned-made = source-only at sr m g (plus at 2) op Long _ _ (does-enter (line-a (moved-long g (named op) Long)))
 
-  pub lineA-made : (e : Emac) (n : ℕ) → (firstRow 0xA + placeIn (firstRow 0xA) n ≡ macRow) ⊎ Makes (acc.readsA g at m op (e .mask) n) (eff.effectsA g at sr m op n) (la.lineA n g at sr e m op)
+  -- MAC and MSAC, with what their second word says
+  abbrev second : ℕ
+  second = numberAt m (plus at 2) Word
+
+  mac-load : (macsr mask next a : ℕ) → Makes (longAt (la.loadAddress mask second a)) nothing (la.macLoad g next sr macsr mask m op second a)
+  unfolding la.macLoad
+  mac-load macsr mask next a = load-made at sr m (la.loadAddress mask second a) Long [] nothing _ (does-nothing refl)
+
+  with-load : (macsr mask : ℕ)
+      → Makes (cond (ltb 5 (mode op)) none (acc.loadReads g at m op mask second)) (cond (ltb 5 (mode op)) (enters noWrite 10 at) nothing) (la.macWithLoad g at sr macsr mask m op second)
+  unfolding la.macWithLoad enter noWrite
+  with-load macsr mask =
+      let base : ℕ = addressOf g (register op) in
+      let displaced : ℕ = plus base (signExtended Word (numberAt m (plus at 4) Word)) in
+      let plain : ℕ = cond (eqb (mode op) 4) (minus base 4) base in
+      cond-made at sr m (ltb 5 (mode op)) none _ _ _ _ _ (does-enter (line-a {w = noWrite} (omega arith)))
+      (either-reads at sr m (eqb (mode op) 5) (wordAt (plus at 4) ++ longAt (la.loadAddress mask second displaced)) (longAt (la.loadAddress mask second plain)) nothing _ _
+      (load-made at sr m (plus at 4) Word (longAt (la.loadAddress mask second displaced)) nothing _ (mac-load macsr mask _ displaced))
+      (mac-load macsr mask _ plain))
+
+  mac-made : (macsr mask : ℕ) → Makes (acc.macReads g at m op mask) (eff.macEffect g at sr m op) (la.mac g at sr macsr mask m op)
+  unfolding la.mac la.macRegisters acting
+  mac-made macsr mask =
+      let after : List Wanted = cond (ltb 5 (mode op)) none (acc.loadReads g at m op mask second) in
+      load-made at sr m (plus at 2) Word (cond (eqb (bits 5 4 op) 0) none after) (eff.macEffect g at sr m op) _
+      (cond-made at sr m (eqb (bits 5 4 op) 0) none after nothing _ _ _ (does-nothing refl) (with-load macsr mask))
+
+  pub lineA-made : (e : Emac) (n : ℕ) → Makes (acc.readsA g at m op (e .mask) n) (eff.effectsA g at sr m op n) (la.lineA n g at sr e m op)
   unfolding acc.readsA eff.effectsA la.lineA la.moveMacsrToCcr la.moveAccToAcc la.moveToGeneral done acting
   lineA-made e n =
-      listed at sr m {P = λ k. k ≡ macRow}
+      all-made at sr m
       (row none nothing (la.moveMacsrToCcr at (e .macsr)) (does-nothing refl)
       (row none nothing (la.moveAccToAcc at sr op) (does-nothing refl)
       (row none nothing (la.moveToGeneral at sr op (e .macsr)) (does-nothing refl)
@@ -637,7 +661,7 @@ module _ (g : List ℕ) (at sr : ℕ) (m : Memory) (op : ℕ) where
       (row (from Long) nothing (la.moveToEmac Ext g at sr m op) (to-emac Ext)
       (row (from Long) nothing (la.moveToEmac Acc g at sr m op) (to-emac Acc)
       (row (extensionOf (plus at 2) op Long) (eff.sets g at sr m op (plus at 2) Long (la.threeBits op)) (la.mov3q g at sr m op) move-three
-      (out (acc.macReads g at m op (e .mask)) (eff.macEffect g at sr m op) (la.mac g at sr (e .mask) m op) refl
+      (row (acc.macReads g at m op (e .mask)) (eff.macEffect g at sr m op) (la.mac g at sr (e .macsr) (e .mask) m op) (mac-made (e .macsr) (e .mask))
       (row (from Long) (enters (eff.operandMove g at sr m op Long) 10 at) (la.unassigned g at sr m op) unassigned-made
       end)))))))))))))
-      (placeIn (firstRow 0xA) n) none (illegalWord at) (illegal at sr) (illegal-does at sr)
+      (placeIn (firstRow 0xA) n)

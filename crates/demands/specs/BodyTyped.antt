@@ -35,7 +35,7 @@ use Rattle.manual.specs.Exceptions.{supervisor}
 use Rattle.manual.specs.Conditions.{condition}
 use Rattle.manual.specs.Shift.{shiftedLeft, shiftedRight, signedShiftedRight}
 use Rattle.manual.specs.Emac.{fractional}
-use Rattle.manual.specs.Fields.{bits, upper, upperMode, mode, register, bitOperator, sizeField, byteOrWord, lowByte, conditionField, accField, extField, wordOperands, line}
+use Rattle.manual.specs.Fields.{bits, upper, upperMode, mode, register, bitOperator, sizeField, byteOrWord, lowByte, conditionField, accField, extField, line}
 use Rattle.manual.specs.Registers.{dataOf, addressOf, noWrite, writeData, writeAddress, writeGeneral, written}
 use Rattle.manual.specs.Memory.{Memory, storageOf, load}
 use Rattle.manual.specs.Address.{operand, operandOf, fetch, value, source, control, destination, destinationOf}
@@ -726,29 +726,26 @@ module _ (g : List ℕ) (all : Longs g) (at : ℕ) (here : IsLong at) (sr : ℕ)
       by false true = h
       by false false = no-write-long
 
-  mac-load : (next mask w base : ℕ) → IsLong next → IsLong base → FitsLong (la.macLoad g next sr mask m op w base)
+  mac-load : (next macsr mask w base : ℕ) → IsLong next → IsLong base → FitsLong (la.macLoad g next sr macsr mask m op w base)
   unfolding la.macLoad writeGeneral
-  mac-load next mask w base n h =
+  mac-load next macsr mask w base n h =
       load-fits (la.loadAddress mask w base) Long _
       (λ v k. record { pc-fits = n; first-fits = k; second-fits = load-moves _ (load-address mask w base h); other-fits = omega arith })
 
-  with-load : (mask w : ℕ) → FitsLong (la.macWithLoad g at sr mask m op w)
+  with-load : (macsr mask w : ℕ) → FitsLong (la.macWithLoad g at sr macsr mask m op w)
   unfolding la.macWithLoad
-  with-load mask w =
+  with-load macsr mask w =
       let a : ℕ = addressOf g (register op) in
       either-fits (ltb 5 (mode op)) _ _ (fit.enter-fits sr 10 at here)
-      (either-fits (wordOperands w) _ _ not-carried-fits
       (either-fits (eqb (mode op) 5) _ _
-      (load-fits (plus at 4) Word _ (λ d h. mac-load _ mask w _ (plus-below at 6) (plus-below a _)))
-      (mac-load _ mask w _ (plus-below at 4) (either-long (eqb (mode op) 4) _ a (minus-below a 4) (fit.address-long g all _)))))
+      (load-fits (plus at 4) Word _ (λ d h. mac-load _ macsr mask w _ (plus-below at 6) (plus-below a _)))
+      (mac-load _ macsr mask w _ (plus-below at 4) (either-long (eqb (mode op) 4) _ a (minus-below a 4) (fit.address-long g all _))))
 
-  mac-fits : (mask : ℕ) → FitsLong (la.mac g at sr mask m op)
+  mac-fits : (macsr mask : ℕ) → FitsLong (la.mac g at sr macsr mask m op)
   unfolding la.mac la.macRegisters
-  mac-fits mask =
+  mac-fits macsr mask =
       load-fits (plus at 2) Word _
-      (λ w h. either-fits (eqb (bits 5 4 op) 0) _ _
-      (either-fits (wordOperands w) _ _ not-carried-fits (act-alone _ _ (plus-below at 4) (omega arith)))
-      (with-load mask w))
+      (λ w h. either-fits (eqb (bits 5 4 op) 0) _ _ (act-alone _ _ (plus-below at 4) (omega arith)) (with-load macsr mask w))
 
   pub lineA-fits : (e : Emac) (n : ℕ) → IsLong (e .macsr) → IsLong (e .mask) → FitsLong (la.lineA n g at sr e m op)
   unfolding la.lineA
@@ -765,7 +762,7 @@ module _ (g : List ℕ) (all : Longs g) (at : ℕ) (here : IsLong at) (sr : ℕ)
       & to-emac Ext
       & to-emac Acc
       & move-three
-      & mac-fits (e .mask)
+      & mac-fits (e .macsr) (e .mask)
       & unassigned-fits
       & end)
       (placeIn (firstRow 0xA) n)

@@ -5,7 +5,7 @@
 --   2  state not admitted (AdmittedMeans says which are)
 --   3  state stopped (step; run with budget left)
 --   4  an access this call makes is not inside (those of a step are listed in Accesses and Effects)
---   5  0x4E7A, 0x4E7B; EMAC word operand
+--   5  0x4E7A, 0x4E7B
 --   6  level above 7, or accumulator number above 3
 --   7  interrupt masked: level below 7 and at most the mask
 --   8  block or file: first byte not 1
@@ -23,7 +23,7 @@ use Rattle.manual.specs.declared.Cpu.{Cpu}
 use Rattle.manual.specs.declared.Level.{Level}
 use Rattle.manual.specs.declared.Level.the-variants.{Kept, To}
 use Rattle.manual.specs.declared.Size.the-variants.{Word}
-use Rattle.manual.specs.Word.{plus, minus}
+use Rattle.manual.specs.Word.{minus}
 use Rattle.manual.specs.Registers.{addressOf}
 use Rattle.manual.specs.Memory.{Storage, Memory, storageOf, valueAt, numberAt}
 use Rattle.manual.specs.Reply.{numberOf, isDone, Outcome}
@@ -79,12 +79,9 @@ pub record Meanings : Type 0 where
   pub inside : (m : Memory) (a n : ℕ) → Inside m a n ↔ (a + n ≤ length (storageOf m))
   pub outside : (m : Memory) (a n : ℕ) → Outside m a n ↔ (length (storageOf m) < a + n)
 
--- a word op at `at` that is not carried
-pub data NotCarriedWord (m : Memory) (at op : ℕ) : Type 0 where
-  movec : (op ≡ 0x4E7A) ⊎ (op ≡ 0x4E7B) → NotCarriedWord m at op
-  -- a MAC word, A000/F100, of a mode below 6, whose second word is inside and has bit 11 clear
-  word-operand : bitAnd op 0xF100 ≡ 0xA000 → op / 8 % 8 ≤ 5 → Inside m (plus at 2) 2 → numberAt m (plus at 2) Word / 0x800 % 2 ≡ 0
-      → NotCarriedWord m at op
+-- a word that is not carried
+abbrev pub NotCarriedWord : ℕ → Type 0
+NotCarriedWord op = (op ≡ 0x4E7A) ⊎ (op ≡ 0x4E7B)
 
 -- the level of an entry: the mask is kept, or it is set to a level, which is at most 7
 abbrev pub LevelBelow8 : Level → Type 0
@@ -100,7 +97,7 @@ pub record Reply0 : Type 0 where
   pub step-0 : (s : Cpu) (l : Lent) → Bytes (l .storage)
       → let m : Memory = memoryOf l in
       (numbered (step s l) ≡ 0)
-      ↔ (Ready s l × ((s .stopped ≡ false) × ((SomeOutside m (accesses s m) → ⊥) × (NotCarriedWord m (s .pc) (numberAt m (s .pc) Word) → ⊥))))
+      ↔ (Ready s l × ((s .stopped ≡ false) × ((SomeOutside m (accesses s m) → ⊥) × (NotCarriedWord (numberAt m (s .pc) Word) → ⊥))))
   -- a step also gives the vector it entered, or 0: that of its row (Effects)
   pub step-vector : (s : Cpu) (l : Lent) → numbered (step s l) ≡ 0 → step s l .stepped .vector ≡ vectorOf (effectOf s (memoryOf l))
   -- a run: as many steps as the budget says can be done, one after the other
@@ -174,7 +171,7 @@ pub record Reply5 : Type 0 where
   pub step-5 : (s : Cpu) (l : Lent) → Bytes (l .storage)
       → let m : Memory = memoryOf l in
       (numbered (step s l) ≡ 5)
-      ↔ (Ready s l × ((s .stopped ≡ false) × (Inside m (s .pc) 2 × NotCarriedWord m (s .pc) (numberAt m (s .pc) Word))))
+      ↔ (Ready s l × ((s .stopped ≡ false) × (Inside m (s .pc) 2 × NotCarriedWord (numberAt m (s .pc) Word))))
   -- a run: with budget left, in the state and memory after the steps that were done
   pub run-5 : (budget : ℕ) (s : Cpu) (l : Lent) → Bytes (l .storage)
       → let r : RunOutcome = run budget s l in
@@ -182,9 +179,10 @@ pub record Reply5 : Type 0 where
       let pc : ℕ = r .ran .cpu .pc in
       (numberOf (r .ran .reply) ≡ 5)
       ↔ (Ready s l
-      × ((r .ran .count < budget) × ((r .ran .cpu .stopped ≡ false) × (Inside m pc 2 × NotCarriedWord m pc (numberAt m pc Word)))))
-  -- no word of line 8 is one of these
-  pub line-8-carried : (m : Memory) (at op : ℕ) → op / 0x1000 ≡ 8 → NotCarriedWord m at op → ⊥
+      × ((r .ran .count < budget) × ((r .ran .cpu .stopped ≡ false) × (Inside m pc 2 × NotCarriedWord (numberAt m pc Word)))))
+  -- no word of line 8 is one of these, and none of line A: so no MAC, whatever its second word says
+  pub line-8-carried : (op : ℕ) → op / 0x1000 ≡ 8 → NotCarriedWord op → ⊥
+  pub line-a-carried : (op : ℕ) → op / 0x1000 ≡ 10 → NotCarriedWord op → ⊥
 
 pub record Reply6 : Type 0 where
   pub exception-6 : (s : Cpu) (l : Lent) (vector pc level : ℕ) → (numbered (exception s l vector pc (To level)) ≡ 6) ↔ (Ready s l × (8 ≤ level))

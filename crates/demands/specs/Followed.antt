@@ -74,7 +74,7 @@ follows s l all f =
 done-fetches : (s : Cpu) (l : Lent) → Bytes (l .storage) → step s l .stepped .reply ≡ Done → Fetches s l
 done-fetches s l all done =
     let m : Memory = memoryOf l in
-    let h : Ready s l × ((s .stopped ≡ false) × ((SomeOutside m (accesses s m) → ⊥) × (NotCarriedWord m (s .pc) (numberAt m (s .pc) Word) → ⊥))) =
+    let h : Ready s l × ((s .stopped ≡ false) × ((SomeOutside m (accesses s m) → ⊥) × (NotCarriedWord (numberAt m (s .pc) Word) → ⊥))) =
     reply-0 .step-0 s l all .0 (ap numberOf done)
     in
     record { ready = h .0; awake = h .1 .0; in-memory = steps.stepped s l done .fetch }

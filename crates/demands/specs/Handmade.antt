@@ -1,7 +1,7 @@
 -- The document's examples that were checked by hand, and line 8's, as one table with a single claim, by computation straight from the
 -- definition of a step, of `exception` and of `rte`. Document: "Checked by hand", the examples marked *. It has none of line 8:
 -- their answers were worked out by hand, N after an overflow and OR.B as docs/DIFFERENCES.md has them (33, 23). Assumes nothing.
-use Prim.Native.Nat.{ℕ, _+_, _/_, _%_, _^_}
+use Prim.Native.Nat.{ℕ, _+_, _-_, _*_, _/_, _%_, _^_}
 use mathlib.Core.Path.{_≡_, refl}
 use mathlib.Core.Bool.{false, cond}
 use mathlib.Core.List.{List, [], _∷_, _++_, map}
@@ -165,6 +165,16 @@ examples =
     ∷ (after (0x04C0 ∷ []) 0x0080_0000 0 0 0 is 0 ∷ 8 ∷ 0 ∷ 0 ∷ 0 ∷ [])
     -- fractional product 0x80000000 squared: +2^39, added to an accumulator that is 0
     ∷ (accumulated (0xA000 ∷ 0x0800 ∷ []) 0x8000_0000 0 0x20 0 is 0 ∷ (2 ^ 39) ∷ 0 ∷ [])
+    -- MAC.W of A4 and D0, of their halves 5, 7 and 2, 3: lower by lower, the upper of A4, the upper of D0, upper by upper
+    ∷ (accumulated (0xA00C ∷ 0x0000 ∷ []) 0x0002_0003 0x0005_0007 0 0 is 0 ∷ 21 ∷ 0 ∷ [])
+    ∷ (accumulated (0xA00C ∷ 0x0040 ∷ []) 0x0002_0003 0x0005_0007 0 0 is 0 ∷ 15 ∷ 0 ∷ [])
+    ∷ (accumulated (0xA00C ∷ 0x0080 ∷ []) 0x0002_0003 0x0005_0007 0 0 is 0 ∷ 14 ∷ 0 ∷ [])
+    ∷ (accumulated (0xA00C ∷ 0x00C0 ∷ []) 0x0002_0003 0x0005_0007 0 0 is 0 ∷ 10 ∷ 0 ∷ [])
+    -- FFFF by 3: -3 of signed integers, 2FFFD of unsigned ones, -3 / 2^30 of fractions; 8000 by itself: +2^39 of fractions
+    ∷ (accumulated (0xA00C ∷ 0x0080 ∷ []) 0xFFFF_0001 0x0001_0003 0 0 is 0 ∷ (2 ^ 48 - 3) ∷ 0 ∷ [])
+    ∷ (accumulated (0xA00C ∷ 0x0080 ∷ []) 0xFFFF_0001 0x0001_0003 0x40 0 is 0 ∷ 0x2_FFFD ∷ 0 ∷ [])
+    ∷ (accumulated (0xA00C ∷ 0x0080 ∷ []) 0xFFFF_0001 0x0001_0003 0x20 0 is 0 ∷ (2 ^ 48 - 3 * 2 ^ 9) ∷ 0 ∷ [])
+    ∷ (accumulated (0xA000 ∷ 0x0000 ∷ []) 0x7FFF_8000 0 0x20 0 is 0 ∷ (2 ^ 39) ∷ 0 ∷ [])
     -- A7 0x103, SR 0x2700, vector 32: frame at 0xF8, first long 0x70802700, A7 0xF8; return gives 0x103
     ∷ (undone 0x103 0x2700 32 0x1234 is 0xF8 ∷ 0x7080_2700 ∷ 0x1234 ∷ 0x103 ∷ 0x1234 ∷ [])
     -- 49C3 is EXTB: D3's low byte is extended. 49D3 is LEA: A4 gets A3
@@ -181,5 +191,5 @@ examples =
     ∷ [])
 
 pub checked-by-hand : map (λ x. x .given) examples ≡ map (λ x. x .said) examples
-unfolding examples step execute bits.withBit instruction perform rowOf placeIn admitted.admitted admitted.status admitted.emacAdmitted memory.load memory.valueAt memory.storeAt memory.storing memory.stored word.cut word.merged word.plus word.minus word.sizeOf word.signedAt word.signExtended registers.dataOf registers.addressOf registers.general registers.noWrite registers.writeData registers.writeAddress registers.written registers.withParts registers.withAddress registers.withPc registers.withSr registers.withStopped registers.withEmac registers.coded registers.applied address.operand address.extension address.source address.value address.fetch address.locate address.immediate address.moved address.control address.destinationOf change.done change.acting change.enterAfter change.store change.put change.putTo flags.codes flags.keptCodes flags.moveCodes flags.added flags.subtracted flags.sumOrDifference flags.sumCodes l9.sums l9.addToData le.lineE le.shift le.shifted le.shiftCount shift.shiftedLeft shift.signedShiftedRight shift.shiftCodes l4.line4 l4.divL l4.divided l4.extb l4.lea l4.halt l4.tas l8.line8 l8.divW l8.wordDivided lc.logicToData bits.logic divide.quotient divide.signedQuotient divide.wordQuotient divide.signedWordQuotient divide.overflowCodes l0.line0 l0.ff1 leadingZeros la.lineA la.mac la.macRegisters la.moveToEmac la.setting la.moveAccToAcc emac.modeOf emac.accOf emac.withAcc emac.withSum emac.accumulate emac.setAcc emac.copyAcc exceptions.setSr exceptions.handlerSr exceptions.frameLong exceptions.handlerState exceptions.entered exceptions.returnState exceptions.returned exceptions.exception exceptions.rte fresh lents.lentRefusal lents.stateRefusal lents.firstRefusal memory.access
+unfolding examples step execute bits.withBit instruction perform rowOf placeIn admitted.admitted admitted.status admitted.emacAdmitted memory.load memory.valueAt memory.storeAt memory.storing memory.stored word.cut word.merged word.plus word.minus word.sizeOf word.signedAt word.signExtended registers.dataOf registers.addressOf registers.general registers.noWrite registers.writeData registers.writeAddress registers.written registers.withParts registers.withAddress registers.withPc registers.withSr registers.withStopped registers.withEmac registers.coded registers.applied address.operand address.extension address.source address.value address.fetch address.locate address.immediate address.moved address.control address.destinationOf change.done change.acting change.enterAfter change.store change.put change.putTo flags.codes flags.keptCodes flags.moveCodes flags.added flags.subtracted flags.sumOrDifference flags.sumCodes l9.sums l9.addToData le.lineE le.shift le.shifted le.shiftCount shift.shiftedLeft shift.signedShiftedRight shift.shiftCodes l4.line4 l4.divL l4.divided l4.extb l4.lea l4.halt l4.tas l8.line8 l8.divW l8.wordDivided lc.logicToData bits.logic divide.quotient divide.signedQuotient divide.wordQuotient divide.signedWordQuotient divide.overflowCodes l0.line0 l0.ff1 leadingZeros la.lineA la.mac la.macRegisters la.operand la.moveToEmac la.setting la.moveAccToAcc emac.modeOf emac.wordOperand emac.accOf emac.withAcc emac.withSum emac.accumulate emac.setAcc emac.copyAcc exceptions.setSr exceptions.handlerSr exceptions.frameLong exceptions.handlerState exceptions.entered exceptions.returnState exceptions.returned exceptions.exception exceptions.rte fresh lents.lentRefusal lents.stateRefusal lents.firstRefusal memory.access
 checked-by-hand = refl

@@ -68,13 +68,13 @@ pub record StepTable (b : List ℕ) (l : Lent) : Type 0 where
   pub gives-5 : Bytes (l .storage)
       → let m : Memory = memoryOf l in
       let pc : ℕ = stateAt b .pc in
-      (replyIn (stepOn b l) ≡ 5) ↔ (Begins b l × ((valueAt b 127 1 ≡ 0) × (Inside m pc 2 × NotCarriedWord m pc (numberAt m pc Word))))
+      (replyIn (stepOn b l) ≡ 5) ↔ (Begins b l × ((valueAt b 127 1 ≡ 0) × (Inside m pc 2 × NotCarriedWord (numberAt m pc Word))))
   -- none of these
   pub gives-0 : Bytes (l .storage)
       → let m : Memory = memoryOf l in
       let pc : ℕ = stateAt b .pc in
       (replyIn (stepOn b l) ≡ 0)
-      ↔ (Begins b l × ((valueAt b 127 1 ≡ 0) × ((SomeOutside m (accesses (stateAt b) m) → ⊥) × (NotCarriedWord m pc (numberAt m pc Word) → ⊥))))
+      ↔ (Begins b l × ((valueAt b 127 1 ≡ 0) × ((SomeOutside m (accesses (stateAt b) m) → ⊥) × (NotCarriedWord (numberAt m pc Word) → ⊥))))
   pub no-other : OneOf (0 ∷ 1 ∷ 2 ∷ 3 ∷ 4 ∷ 5 ∷ 8 ∷ 9 ∷ []) (replyIn (stepOn b l))
 
 -- when a call on a block gives which reply; `read` is the reply to the block's own read, `inner` that of the call on its state
@@ -435,9 +435,9 @@ module _ (b : List ℕ) where
           gives-4 = laws.iff-trans (on .gives 4 (inr (omega arith, omega arith)))
               (laws.iff-trans (laws.iff-and laws.iff-same (exact.reply-4 .step-4 s l)) (goes-on (λ s. SomeOutside m (accesses s m))));
           gives-5 = λ bytes. laws.iff-trans (on .gives 5 (inr (omega arith, omega arith)))
-              (laws.iff-trans (laws.iff-and laws.iff-same (exact.reply-5 .step-5 s l bytes)) (goes-on (λ s. Inside m (s .pc) 2 × NotCarriedWord m (s .pc) (numberAt m (s .pc) Word))));
+              (laws.iff-trans (laws.iff-and laws.iff-same (exact.reply-5 .step-5 s l bytes)) (goes-on (λ s. Inside m (s .pc) 2 × NotCarriedWord (numberAt m (s .pc) Word))));
           gives-0 = λ bytes. laws.iff-trans (on .gives 0 (inl refl))
               (laws.iff-trans (laws.iff-and laws.iff-same (exact.reply-0 .step-0 s l bytes))
-              (goes-on (λ s. (SomeOutside m (accesses s m) → ⊥) × (NotCarriedWord m (s .pc) (numberAt m (s .pc) Word) → ⊥))));
+              (goes-on (λ s. (SomeOutside m (accesses s m) → ⊥) × (NotCarriedWord (numberAt m (s .pc) Word) → ⊥))));
           no-other = has-row (replyIn (stepOn b l)) on (exact.no-others .read-block-of b) (exact.no-others .step-of s l);
         }

@@ -38,3 +38,5 @@ pub mod Determined
 pub mod HostSentences
 pub mod RecordLaws
 pub mod SRecords
+pub mod WordOperands
+pub mod HalfLaws

@@ -36,10 +36,10 @@ use Rattle.demands.specs.EffectLaws.{Performs, performs}
 use Rattle.demands.specs.BodyLaws.{movecRead, movecWrite}
 use Rattle.demands.specs.AccessLaws.{word-lt, fault-number}
 use Rattle.demands.specs.FirstReplies.{first-1, first-2, first-of}
-use Rattle.demands.specs.InstructionLaws.{Excused, NotCarriedHere, instruction-made, excused-refused, movec-read, movec-write, mac-fits, mac-in-line, mac-row}
+use Rattle.demands.specs.InstructionLaws.{Excused, NotCarriedHere, instruction-made, excused-refused, movec-read, movec-write}
 use Rattle.demands.specs.StepLaws.{doing, fetched, not-fetched, perform-refused, Stepped, stepped}
 use Rattle.demands.specs.ReplyLaws as laws
-use Rattle.demands.specs.Exact.{numbered, Bytes, TooLong, Usable, Ready, NotCarriedWord, movec, word-operand, OneOf}
+use Rattle.demands.specs.Exact.{numbered, Bytes, TooLong, Usable, Ready, NotCarriedWord, OneOf}
 
 -- ---- the words that are not carried
 
@@ -51,23 +51,14 @@ write-row : (op : ℕ) → op ≡ 0x4E7B → rowOf op ≡ movecWrite
 unfolding rowOf
 write-row op h = rw h
 
-kinds : (m : Memory) (at op : ℕ) → op < 0x1_0000 → Excused at m op ↔ NotCarriedWord m at op
-kinds m at op small = (there, back)
-  where
-    there : Excused at m op → NotCarriedWord m at op
-    there (inl (inl h)) = movec (inl (movec-read op small h))
-    there (inl (inr h)) = movec (inr (movec-write op small h))
-    there (inr h) = word-operand (mac-fits op small (h .0)) (h .1 .0) (h .1 .1 .0) (h .1 .1 .1)
+kinds : (op : ℕ) → op < 0x1_0000 → Excused op ↔ NotCarriedWord op
+kinds op small = (⊎-elim (λ h. inl (movec-read op small h)) (λ h. inr (movec-write op small h)), ⊎-elim (λ h. inl (read-row op h)) (λ h. inr (write-row op h)))
 
-    back : NotCarriedWord m at op → Excused at m op
-    back (movec (inl h)) = inl (inl (read-row op h))
-    back (movec (inr h)) = inl (inr (write-row op h))
-    back (word-operand f mode i w) = inr (mac-row op small f, (mode, (i, w)))
+pub line-8-carried : (op : ℕ) → op / 0x1000 ≡ 8 → NotCarriedWord op → ⊥
+line-8-carried op h = ⊎-elim (λ e. omega arith) (λ e. omega arith)
 
-pub line-8-carried : (m : Memory) (at op : ℕ) → op / 0x1000 ≡ 8 → NotCarriedWord m at op → ⊥
-line-8-carried m at op h (movec (inl e)) = omega arith
-line-8-carried m at op h (movec (inr e)) = omega arith
-line-8-carried m at op h (word-operand f mode i w) = omega (arith, mac-in-line op (omega arith) f)
+pub line-a-carried : (op : ℕ) → op / 0x1000 ≡ 10 → NotCarriedWord op → ⊥
+line-a-carried op h = ⊎-elim (λ e. omega arith) (λ e. omega arith)
 
 -- ---- a step
 
@@ -89,7 +80,7 @@ module _ (s : Cpu) (l : Lent) where
 
   -- the first fault of the accesses, x, if there is one; or 5, where there is none
   abbrev Kind : ℕ → Stored → Type 0
-  Kind n x = (n ≡ numberOr x 0) ⊎ ((n ≡ 5) × ((x ≡ Taken) × (Inside m (s .pc) 2 × Excused (s .pc) m op)))
+  Kind n x = (n ≡ numberOr x 0) ⊎ ((n ≡ 5) × ((x ≡ Taken) × (Inside m (s .pc) 2 × Excused op)))
 
   -- once the word is fetched: its own reads, and what is then done
   abbrev own : List Wanted
@@ -180,24 +171,24 @@ module _ (s : Cpu) (l : Lent) where
   fault-not-5 : numberOr all 0 ≡ 5 → ⊥
   fault-not-5 e = ⊎-elim (λ z. omega arith) (λ z. omega arith) (laws.zero-or-4 all)
 
-  acted-5 : Bytes (l .storage) → (numbered acted ≡ 5) ↔ (Inside m (s .pc) 2 × NotCarriedWord m (s .pc) op)
+  acted-5 : Bytes (l .storage) → (numbered acted ≡ 5) ↔ (Inside m (s .pc) 2 × NotCarriedWord op)
   acted-5 bytes = (there, back)
     where
       small : op < 0x1_0000
       small = word-lt m (s .pc) bytes
 
-      there : numbered acted ≡ 5 → Inside m (s .pc) 2 × NotCarriedWord m (s .pc) op
+      there : numbered acted ≡ 5 → Inside m (s .pc) 2 × NotCarriedWord op
       there e =
-          ⊎-elim (λ h. absurd (fault-not-5 (sym h ∙ e))) (λ h. (h .1 .1 .0, kinds m (s .pc) op small .0 (h .1 .1 .1))) acted-kind
+          ⊎-elim (λ h. absurd (fault-not-5 (sym h ∙ e))) (λ h. (h .1 .1 .0, kinds op small .0 (h .1 .1 .1))) acted-kind
 
-      back : Inside m (s .pc) 2 × NotCarriedWord m (s .pc) op → numbered acted ≡ 5
+      back : Inside m (s .pc) 2 × NotCarriedWord op → numbered acted ≡ 5
       back h =
           ap (λ (c : Change). numbered (perform s c m))
           (fetched (s .r) (s .pc) (s .sr) (s .other) (s .emac) m op (h .0) refl
-          ∙ excused-refused (s .r) (s .pc) (s .sr) (s .other) (s .emac) m op small (kinds m (s .pc) op small .1 (h .1)))
+          ∙ excused-refused (s .r) (s .pc) (s .sr) (s .other) (s .emac) m op small (kinds op small .1 (h .1)))
           ∙ laws.perform-5 s m
 
-  pub of-step-5 : Bytes (l .storage) → (numbered (step s l) ≡ 5) ↔ (Ready s l × ((s .stopped ≡ false) × (Inside m (s .pc) 2 × NotCarriedWord m (s .pc) op)))
+  pub of-step-5 : Bytes (l .storage) → (numbered (step s l) ≡ 5) ↔ (Ready s l × ((s .stopped ≡ false) × (Inside m (s .pc) 2 × NotCarriedWord op)))
   unfolding step
   of-step-5 bytes =
       laws.iff-trans (laws.checked-on s l inner 5 (λ h. omega arith) (λ h. omega arith))
@@ -218,7 +209,7 @@ module _ (s : Cpu) (l : Lent) where
       (laws.iff-and laws.iff-same
       (rw inner-number (laws.iff-trans (laws.later 4 (numbered acted) 3 (λ h. omega arith) (s .stopped)) (laws.iff-and laws.iff-same acted-4))))
 
-  acted-0 : Bytes (l .storage) → (numbered acted ≡ 0) ↔ ((SomeOutside m (accesses s m) → ⊥) × (NotCarriedWord m (s .pc) op → ⊥))
+  acted-0 : Bytes (l .storage) → (numbered acted ≡ 0) ↔ ((SomeOutside m (accesses s m) → ⊥) × (NotCarriedWord op → ⊥))
   acted-0 bytes = (there, back)
     where
       fetch-inside : (SomeOutside m (accesses s m) → ⊥) → Inside m (s .pc) 2
@@ -228,16 +219,16 @@ module _ (s : Cpu) (l : Lent) where
           by (Here p) i = refl
           by (Not Out) i = absurd (h (some-outside m (accesses s m) .0 (rw (no-fetch Out i))))
 
-      there : numbered acted ≡ 0 → (SomeOutside m (accesses s m) → ⊥) × (NotCarriedWord m (s .pc) op → ⊥)
+      there : numbered acted ≡ 0 → (SomeOutside m (accesses s m) → ⊥) × (NotCarriedWord op → ⊥)
       there e =
           let inside-all : SomeOutside m (accesses s m) → ⊥ = λ h. omega (arith, sym (acted-4 .1 h) ∙ e) in
           (inside-all, λ w. omega (arith, sym (acted-5 bytes .1 (fetch-inside inside-all, w)) ∙ e))
 
-      back : (SomeOutside m (accesses s m) → ⊥) × (NotCarriedWord m (s .pc) op → ⊥) → numbered acted ≡ 0
+      back : (SomeOutside m (accesses s m) → ⊥) × (NotCarriedWord op → ⊥) → numbered acted ≡ 0
       back h = ⊎-elim (λ k. k ∙ laws.none-outside m (accesses s m) .1 (h .0)) (λ k. absurd (h .1 (acted-5 bytes .0 (k .0) .1))) acted-kind
 
   pub of-step-0 : Bytes (l .storage)
-      → (numbered (step s l) ≡ 0) ↔ (Ready s l × ((s .stopped ≡ false) × ((SomeOutside m (accesses s m) → ⊥) × (NotCarriedWord m (s .pc) op → ⊥))))
+      → (numbered (step s l) ≡ 0) ↔ (Ready s l × ((s .stopped ≡ false) × ((SomeOutside m (accesses s m) → ⊥) × (NotCarriedWord op → ⊥))))
   unfolding step
   of-step-0 bytes =
       laws.iff-trans (laws.checked-on s l inner 0 (λ h. omega arith) (λ h. omega arith))
@@ -376,7 +367,7 @@ module _ (budget : ℕ) (s : Cpu) (l : Lent) where
       → let pc : ℕ = ran .ran .cpu .pc in
       let m : Memory = memoryOf l′ in
       (number ≡ 5)
-      ↔ (Ready s l × ((ran .ran .count < budget) × ((ran .ran .cpu .stopped ≡ false) × (Inside m pc 2 × NotCarriedWord m pc (numberAt m pc Word)))))
+      ↔ (Ready s l × ((ran .ran .count < budget) × ((ran .ran .cpu .stopped ≡ false) × (Inside m pc 2 × NotCarriedWord (numberAt m pc Word)))))
   of-run-5 bytes = of-run-step 5 (λ h. omega arith) (λ h. omega arith) (λ h. omega arith) (of-step-5 (ran .ran .cpu) l′ (runs .still-bytes budget s l bytes))
 
   pub of-run-0 : (number ≡ 0) ↔ (Ready s l × (ran .ran .count ≡ budget))

@@ -1,4 +1,4 @@
 pub mod RaisedProduct
-pub mod FractionLaws
+pub mod PlainMode
 mod MoveLaws
 mod ReadLaws

@@ -104,29 +104,37 @@ fn summed(m: u32, a: u64, i: u32, scale: u32, sub: bool, x: u32, y: u32) -> Afte
     with_sum(k, m, i, p.over, sum(sub, c, p.value))
 }
 
-// The same of fractions, neither rounded nor saturated: the mode is written out for the compiler.
-fn summed_fraction(m: u32, a: u64, i: u32, scale: u32, sub: bool, x: u32, y: u32) -> AfterSum
+// The same, with the modes that neither round nor saturate written out for the compiler: integers, and fractions.
+fn summed_plainly(m: u32, a: u64, i: u32, scale: u32, sub: bool, x: u32, y: u32) -> AfterSum
     ensures { λ r. ⌜ IsSummed m a i scale sub x y r ⌝ }
 {
     let k = mode_of(m);
-    if !k.fi {
+    if k.omc {
         return summed(m, a, i, scale, sub, x, y);
     }
     if k.rt {
         return summed(m, a, i, scale, sub, x, y);
     }
-    if k.omc {
-        return summed(m, a, i, scale, sub, x, y);
+    if k.fi {
+        let f = Mode {
+            fi: true,
+            su: k.su,
+            rt: false,
+            omc: false,
+        };
+        let p = scaled_product(f, scale, x, y);
+        let c = value_of(f, a);
+        return with_sum(f, m, i, p.over, sum(sub, c, p.value));
     }
-    let f = Mode {
-        fi: true,
+    let n = Mode {
+        fi: false,
         su: k.su,
         rt: false,
         omc: false,
     };
-    let p = scaled_product(f, scale, x, y);
-    let c = value_of(f, a);
-    with_sum(f, m, i, p.over, sum(sub, c, p.value))
+    let p = scaled_product(n, scale, x, y);
+    let c = value_of(n, a);
+    with_sum(n, m, i, p.over, sum(sub, c, p.value))
 }
 
 // MAC, and MSAC where `sub`, of a unit in parts: x times y, scaled, to accumulator i, in place. MACSR after it.
@@ -148,8 +156,8 @@ pub fn accumulate_in(
     s.macsr
 }
 
-// The same, with fractions first.
-pub fn accumulate_fraction(
+// The same, with the modes that neither round nor saturate first.
+pub fn accumulate_plainly(
     macsr: u32,
     mask: u32,
     acc: &mut [u64; 4],
@@ -162,7 +170,7 @@ pub fn accumulate_fraction(
     ensures { λ r. ⌜ emacOf r mask (now (acc .exit)) ≡ accumulateOf (emacOf macsr mask (now (acc .entry))) i scale sub x y ⌝ }
 {
     let j = (i % 4) as usize;
-    let s = summed_fraction(macsr, acc[j], i, scale, sub, x, y);
+    let s = summed_plainly(macsr, acc[j], i, scale, sub, x, y);
     acc[j] = s.acc;
     s.macsr
 }

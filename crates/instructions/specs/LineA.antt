@@ -1,13 +1,13 @@
 -- Line A: the EMAC's instructions and MOV3Q.
 use Prim.Native.Nat.{ℕ, _+_, _-_, _*_}
-use mathlib.Core.{Bool.false, Bool.cond, List.List, List.[], List._∷_}
+use mathlib.Core.{Bool.Bool, Bool.false, Bool.cond, List.List, List.[], List._∷_}
 use lib.{Dec.eqb, Dec.ltb, Bits.bitAnd}
 use Rattle.manual.specs.declared.{Size.the-variants.Word, Size.the-variants.Long, Write.Write, Change.Change, Emac.Emac, EmacPart.EmacPart, EmacPart.the-variants.Acc, EmacPart.the-variants.Ext, EmacPart.the-variants.Macsr}
 use Rattle.manual.specs.declared.{EmacPart.the-variants.Mask, Action.Action, Action.the-variants.Nothing, Action.the-variants.Accumulate, Action.the-variants.SetAcc, Action.the-variants.SetExt, Action.the-variants.SetMacsr}
 use Rattle.manual.specs.declared.{Action.the-variants.SetMask, Action.the-variants.CopyAcc, Action.the-variants.ClearAcc}
 use Rattle.manual.specs.{Word.plus, Word.minus, Word.signExtended, Bits.bitOf, Registers.addressOf, Registers.general, Registers.noWrite, Registers.writeAddress, Registers.writeGeneral, Flags.codes, Flags.moveCodes, Flags.keptCodes}
-use Rattle.manual.specs.{Memory.Memory, Memory.load, Address.moved, Address.destination, Change.readingSource, Change.done, Change.acting, Change.enter, Change.enterAfter, Change.notCarried, Change.reading, Change.putTo}
-use Rattle.manual.specs.{Emac.modeOf, Emac.accOf, Emac.readAcc, Emac.readExt, Emac.fractional, Fields.upper, Fields.mode, Fields.register, Fields.lowFour, Fields.highFour, Fields.sourceAcc, Fields.accField, Fields.extField}
+use Rattle.manual.specs.{Memory.Memory, Memory.load, Address.moved, Address.destination, Change.readingSource, Change.done, Change.acting, Change.enter, Change.enterAfter, Change.reading, Change.putTo}
+use Rattle.manual.specs.{Emac.modeOf, Emac.wordOperand, Emac.accOf, Emac.readAcc, Emac.readExt, Emac.fractional, Fields.upper, Fields.mode, Fields.register, Fields.lowFour, Fields.highFour, Fields.sourceAcc, Fields.accField, Fields.extField}
 use Rattle.manual.specs.{Fields.macRegister, Fields.bits, Fields.wordOperands}
 use Rattle.instructions.specs.{Rows.firstRow, Rows.byRow}
 
@@ -59,19 +59,23 @@ unassigned g at sr m op =
     readingSource g m (plus at 2) op Long λ from v.
     enterAfter (from .moved) sr 10 at
 
--- ---- MAC.L Ry,Rx,ACCx: ACCx + Ry * Rx, scaled → ACCx. MSAC.L: ACCx - it. With a load, <ea>y → Rw at the same time.
--- MACSR's N, Z, V, EV and PAVx; condition codes are not affected
+-- ---- MAC.L Ry,Rx,ACCx: ACCx + Ry * Rx, scaled → ACCx. MSAC.L: ACCx - it. MAC.W, MSAC.W: of a half of Ry and a half of Rx.
+-- With a load, <ea>y → Rw at the same time. MACSR's N, Z, V, EV and PAVx; condition codes are not affected
 
--- the scale factor, and the sign that the second word says
-abbrev pub accumulating : ℕ → ℕ → ℕ → ℕ → Action
-accumulating w i x y = Accumulate i (bits 10 9 w) (bitOf 8 w) x y
+-- an operand of a register's v: of MAC.L all of it, of MAC.W the upper or the lower half
+unfoldable pub operand : ℕ → ℕ → Bool → ℕ → ℕ
+operand macsr w upper v = cond (wordOperands w) (wordOperand (modeOf macsr) upper v) v
+
+-- the scale factor, the sign and the halves that the second word says: bit 7 is set for the upper half of Rx, bit 6 for that of Ry
+abbrev pub accumulating : ℕ → ℕ → ℕ → ℕ → ℕ → Action
+accumulating macsr w i x y = Accumulate i (bits 10 9 w) (bitOf 8 w) (operand macsr w (bitOf 7 w) x) (operand macsr w (bitOf 6 w) y)
 
 -- two registers, w being the second word. The accumulator's low bit is bit 7, and its high bit is bit 4 of w
 -- 41. Bits 3 to 0 of w are not looked at. The manual: on an EMAC_B they say a dual accumulation
-unfoldable pub macRegisters : List ℕ → ℕ → ℕ → ℕ → ℕ → Change
-macRegisters g at sr op w =
+unfoldable pub macRegisters : List ℕ → ℕ → ℕ → ℕ → ℕ → ℕ → Change
+macRegisters g at sr macsr op w =
     acting sr (plus at 4) noWrite
-    (accumulating w (bits 7 7 op + bits 4 4 w * 2) (general g (macRegister op)) (general g (lowFour op)))
+    (accumulating macsr w (bits 7 7 op + bits 4 4 w * 2) (general g (macRegister op)) (general g (lowFour op)))
 
 -- where (An)+, mode 3, and -(An), mode 4, leave their register, the operand being at a
 -- 35. (An)+ goes on from the masked address. The manual: An + 4, which is then masked
@@ -88,8 +92,8 @@ loadAddress mask w base = cond (bitOf 5 w) (bitAnd base mask) base
 
 -- with a load, the low bit of the accumulator's number is inverted
 -- 56. The address register is written after the loaded one, which it may be. The manual does not say
-unfoldable pub macLoad : List ℕ → ℕ → ℕ → ℕ → Memory → ℕ → ℕ → ℕ → Change
-macLoad g next sr mask m op w base =
+unfoldable pub macLoad : List ℕ → ℕ → ℕ → ℕ → ℕ → Memory → ℕ → ℕ → ℕ → Change
+macLoad g next sr macsr mask m op w base =
     let a : ℕ = loadAddress mask w base in
     reading (load m a Long) λ v.
     record {
@@ -97,27 +101,24 @@ macLoad g next sr mask m op w base =
       ccr = keptCodes sr;
       first = writeGeneral (macRegister op) v;
       second = loadMoves op a;
-      action = accumulating w (1 - bits 7 7 op + bits 4 4 w * 2) (general g (highFour w)) (general g (lowFour w));
+      action = accumulating macsr w (1 - bits 7 7 op + bits 4 4 w * 2) (general g (highFour w)) (general g (lowFour w));
     }
 
--- modes 2 to 5; modes 6 and 7 are no instruction of the line. Word operands are not carried
-unfoldable pub macWithLoad : List ℕ → ℕ → ℕ → ℕ → Memory → ℕ → ℕ → Change
-macWithLoad g at sr mask m op w =
+-- modes 2 to 5; modes 6 and 7 are no instruction of the line
+unfoldable pub macWithLoad : List ℕ → ℕ → ℕ → ℕ → ℕ → Memory → ℕ → ℕ → Change
+macWithLoad g at sr macsr mask m op w =
     let a : ℕ = addressOf g (register op) in
     cond (ltb 5 (mode op)) (enter sr 10 at)
-    (cond (wordOperands w) notCarried
     (cond (eqb (mode op) 5)
     (reading (load m (plus at 4) Word) λ d.
-    macLoad g (plus at 6) sr mask m op w (plus a (signExtended Word d)))
-    (macLoad g (plus at 4) sr mask m op w (cond (eqb (mode op) 4) (minus a 4) a))))
+    macLoad g (plus at 6) sr macsr mask m op w (plus a (signExtended Word d)))
+    (macLoad g (plus at 4) sr macsr mask m op w (cond (eqb (mode op) 4) (minus a 4) a)))
 
 -- modes 0 and 1 are the form without a load
-unfoldable pub mac : List ℕ → ℕ → ℕ → ℕ → Memory → ℕ → Change
-mac g at sr mask m op =
+unfoldable pub mac : List ℕ → ℕ → ℕ → ℕ → ℕ → Memory → ℕ → Change
+mac g at sr macsr mask m op =
     reading (load m (plus at 2) Word) λ w.
-    cond (eqb (bits 5 4 op) 0)
-    (cond (wordOperands w) notCarried (macRegisters g at sr op w))
-    (macWithLoad g at sr mask m op w)
+    cond (eqb (bits 5 4 op) 0) (macRegisters g at sr macsr op w) (macWithLoad g at sr macsr mask m op w)
 
 -- ---- the rows of the line
 
@@ -135,6 +136,6 @@ lineA row g at sr e m op =
     moveToEmac Ext g at sr m op ∷  -- 97 WRITE_ACCEXT AB00/FBC0
     moveToEmac Acc g at sr m op ∷  -- 98 WRITE_ACC A100/F9C0
     mov3q g at sr m op ∷  -- 99 MOV3Q A140/F1C0
-    mac g at sr (e .mask) m op ∷  -- 100 MAC A000/F100
+    mac g at sr (e .macsr) (e .mask) m op ∷  -- 100 MAC A000/F100
     unassigned g at sr m op ∷  -- 101 LINEA A100/F100
     [])

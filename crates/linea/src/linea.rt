@@ -86,7 +86,7 @@ pub fn instruction(
         rows::WRITE_ACCEXT => move_to_emac(EmacPart::Ext, g, at, sr, mem, op),
         rows::WRITE_ACC => move_to_emac(EmacPart::Acc, g, at, sr, mem, op),
         rows::MOV3Q => mov3q(g, at, sr, mem, op),
-        rows::MAC => mac(g, at, sr, mask, mem, op),
+        rows::MAC => mac(g, at, sr, macsr, mask, mem, op),
         rows::LINEA => unassigned(g, at, sr, mem, op),
         _ => illegal(at, sr),
     }

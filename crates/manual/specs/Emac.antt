@@ -4,8 +4,8 @@
 use Prim.Native.Nat.{ℕ, _+_, _-_, _*_, _/_, _%_, _^_}
 use mathlib.Core.{Bool.Bool, Bool.false, Bool.cond, Bool.not, Bool._&&_, Bool._||_, List.List, List.map}
 use lib.{Dec.ltb, Dec.leb, Dec.eqb, ListN.getD, ListN.set, IntN.ℤ, IntN.pos, IntN.negsuc, IntN.sucℤ, IntN._+ℤ_, IntN._-ℤ_, IntN._*ℤ_, Signed.shrZ}
-use Rattle.manual.specs.declared.{Size.the-variants.Long, Mode.Mode, Emac.Emac}
-use Rattle.manual.specs.{Word.signed, Word.signedAt, Word.modZ, Word.inHalf, Word.negative, Bits.bitOf, Bits.withBit}
+use Rattle.manual.specs.declared.{Size.the-variants.Word, Size.the-variants.Long, Mode.Mode, Emac.Emac}
+use Rattle.manual.specs.{Word.signed, Word.signedAt, Word.signExtended, Word.modZ, Word.inHalf, Word.negative, Bits.bitOf, Bits.withBit, Fields.bits}
 
 -- ---- MACSR: EV is bit 0, V 1, Z 2, N 3, RT 4, FI 5, SU 6, OMC 7, and PAV0 to PAV3 are bits 8 to 11
 
@@ -53,6 +53,17 @@ inWhole m (negsuc n) = false
 -- whether a number is one of the width's
 abbrev pub fitsIn : Mode → ℕ → ℤ → Bool
 fitsIn k H z = cond (unsigned k) (inWhole (H + H) z) (inHalf H z)
+
+-- ---- a word operand: the upper or the lower half of a register
+
+abbrev pub halfOf : Bool → ℕ → ℕ
+halfOf upper v = cond upper (bits 31 16 v) (v % 2 ^ 16)
+
+-- the long that it stands for: a fraction's bits are the upper ones, and zeros below; an integer is extended, with zeros or with its sign
+unfoldable pub wordOperand : Mode → Bool → ℕ → ℕ
+wordOperand k upper v =
+    let h : ℕ = halfOf upper v in
+    cond (k .fi) (h * 2 ^ 16) (cond (k .su) h (signExtended Word h))
 
 -- ---- the product of two longs
 

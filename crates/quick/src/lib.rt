@@ -123,7 +123,7 @@ pub fn in_place(row: u8, g: &mut [u32; 16], pc: u32, sr: u16, mem: &mut [u8], op
     }
 }
 
-// MAC and MSAC of longs done in place, or left with nothing changed; any other row is left.
+// MAC and MSAC done in place, or left with nothing changed; any other row is left.
 // This and `in_place` have one caller each, so a compiler puts them there with all that is below them, up to a size: a run is slower by
 // half where one stays a call. So the instructions of a step are to be counted after each new arm.
 pub fn summed(

@@ -22,14 +22,14 @@ unfolding coded keptCodes
 kept-status sr = omega arith
 
 -- a long at the definition's address, with its move
-pub spotted : (g : List ℕ) (sr mask : ℕ) (m : Memory) (op w a base next : ℕ) (step : Write) → a ≡ loadAddress mask w base → step ≡ loadMoves op a
-    → reading (load m a Long) (λ v. loading g sr op w v next step) ≡ macLoad g next sr mask m op w base
+pub spotted : (g : List ℕ) (sr macsr mask : ℕ) (m : Memory) (op w a base next : ℕ) (step : Write) → a ≡ loadAddress mask w base → step ≡ loadMoves op a
+    → reading (load m a Long) (λ v. loading g sr macsr op w v next step) ≡ macLoad g next sr macsr mask m op w base
 unfolding macLoad
-spotted g sr mask m op w a base next step p q = rw (q, p)
+spotted g sr macsr mask m op w a base next step p q = rw (q, p)
 
 -- what is loaded from a spot
-pub loaded : (g : List ℕ) (pc sr mask : ℕ) (m : Memory) (op w a next v : ℕ) (step : Write) (s : Spot) (got : Got)
+pub loaded : (g : List ℕ) (pc sr macsr mask : ℕ) (m : Memory) (op w a next v : ℕ) (step : Write) (s : Spot) (got : Got)
     → s ≡ At a next step → got ≡ load m a Long → got ≡ Value v
-    → fromSpot s g sr m op w (macWithLoad g pc sr mask m op w) ≡ macWithLoad g pc sr mask m op w
-    → loading g sr op w v next step ≡ macWithLoad g pc sr mask m op w
-loaded g pc sr mask m op w a next v step s got p q r h = rw (p, ← q, r) at h
+    → fromSpot s g sr macsr m op w (macWithLoad g pc sr macsr mask m op w) ≡ macWithLoad g pc sr macsr mask m op w
+    → loading g sr macsr op w v next step ≡ macWithLoad g pc sr macsr mask m op w
+loaded g pc sr macsr mask m op w a next v step s got p q r h = rw (p, ← q, r) at h

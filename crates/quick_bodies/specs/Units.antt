@@ -14,7 +14,8 @@ use Rattle.manual.specs.Memory.{Memory, load}
 use Rattle.manual.specs.Change.{reading}
 use Rattle.manual.specs.Emac.{emacOf, accumulate}
 use Rattle.manual.specs.Fields.{bits, macRegister, lowFour, highFour}
-use Rattle.instructions.specs.LineA.{accumulating}
+use Rattle.manual.specs.Bits.{bitOf}
+use Rattle.instructions.specs.LineA.{operand, accumulating}
 use Rattle.quick_parts.specs.declared.Spot.{Spot}
 use Rattle.quick_parts.specs.declared.Spot.the-variants.{At, NotNear}
 use Rattle.quick_bodies.specs.declared.mac.Summed.{Summed}
@@ -76,6 +77,10 @@ agreedMac Left c sr e g = undone sr g e
 
 -- ---- a product that is yet to be summed
 
+-- of registers x and y, by the second word w
+abbrev pub productBy : ℕ → ℕ → ℕ → ℕ → ℕ → ℕ → Product
+productBy next macsr w i x y = Of next i (bits 10 9 w) (bitOf 8 w) (operand macsr w (bitOf 7 w) x) (operand macsr w (bitOf 6 w) y)
+
 -- with the unit that it is summed in
 abbrev pub onceSummed : Product → ℕ → Emac → List ℕ → AfterMac
 onceSummed (Of next i scale sub x y) sr e g = summed next sr g (accumulate e i scale sub x y)
@@ -88,17 +93,17 @@ agreedProduct NoProduct c sr e g = undone sr g e
 -- ---- a load
 
 -- the change that loads v
-abbrev pub loading : List ℕ → ℕ → ℕ → ℕ → ℕ → ℕ → Write → Change
-loading g sr op w v next step =
+abbrev pub loading : List ℕ → ℕ → ℕ → ℕ → ℕ → ℕ → ℕ → Write → Change
+loading g sr macsr op w v next step =
     record {
       pc = next;
       ccr = keptCodes sr;
       first = writeGeneral (macRegister op) v;
       second = step;
-      action = accumulating w (1 - bits 7 7 op + bits 4 4 w * 2) (general g (highFour w)) (general g (lowFour w));
+      action = accumulating macsr w (1 - bits 7 7 op + bits 4 4 w * 2) (general g (highFour w)) (general g (lowFour w));
     }
 
 -- the change that loads from a spot. `NotNear` says nothing
-abbrev pub fromSpot : Spot → List ℕ → ℕ → Memory → ℕ → ℕ → Change → Change
-fromSpot (At a next step) g sr m op w c = reading (load m a Long) λ v. loading g sr op w v next step
-fromSpot NotNear g sr m op w c = c
+abbrev pub fromSpot : Spot → List ℕ → ℕ → ℕ → Memory → ℕ → ℕ → Change → Change
+fromSpot (At a next step) g sr macsr m op w c = reading (load m a Long) λ v. loading g sr macsr op w v next step
+fromSpot NotNear g sr macsr m op w c = c

@@ -30,6 +30,9 @@ mod random;
 mod cases;
 #[path = "../witnesses.rs"]
 mod witnesses;
+#[path = "../words.rs"]
+#[allow(dead_code)]
+mod words;
 include!(concat!(env!("OUT_DIR"), "/original.rs"));
 
 use cases::*;
@@ -53,6 +56,8 @@ struct Compare {
     completed: [Vec<bool>; 2],
     /// Words of DIVU.W and DIVS.W that a step has completed with a quotient, with an overflow and by zero.
     divided: [BTreeSet<u16>; 3],
+    /// Kinds of word products that a step has summed without an overflow, with one upwards and with one downwards.
+    summed: [BTreeSet<words::Kind>; 3],
     start: Instant,
     said: u64,
 }
@@ -68,6 +73,9 @@ impl Compare {
             if op & 0xF0C0 == 0x80C0 {
                 let overflow = want.block[74] >> 1 & 1;
                 self.divided[if want.value == 5 { 2 } else { overflow as usize }].insert(op);
+            }
+            if let Some((kind, overflow)) = words::summed(&case, &want) {
+                self.summed[overflow].insert(kind);
             }
         }
         match case.call {
@@ -414,6 +422,14 @@ fn divides(c: &mut Compare, r: &mut Random) {
     divides::each(r, |s, mem| {
         c.check("divides, run", Case::of(Call::Run(1), &s, mem.clone()));
         c.check("divides", Case::of(Call::Step, &s, mem));
+    });
+}
+
+/// Every kind of word product, as a step and as a run.
+fn word_products(c: &mut Compare, r: &mut Random) {
+    words::each(r, |s, mem| {
+        c.check("word products, run", Case::of(Call::Run(1), &s, mem.clone()));
+        c.check("word products", Case::of(Call::Step, &s, mem));
     });
 }
 
@@ -777,6 +793,7 @@ pub extern "C" fn main() -> i32 {
         steps_in_runs: 0,
         completed: [vec![false; 0x10000], vec![false; 0x10000]],
         divided: Default::default(),
+        summed: Default::default(),
         start: Instant::now(),
         said: 0,
     };
@@ -793,6 +810,7 @@ pub extern "C" fn main() -> i32 {
         edges(&mut c, &mut r);
         memory_edges(&mut c, &mut r);
         divides(&mut c, &mut r);
+        word_products(&mut c, &mut r);
         runs(&mut c, &mut r);
         long_runs(&mut c, &mut r);
         mixed_loops(&mut c, &mut r);
@@ -814,6 +832,15 @@ pub extern "C" fn main() -> i32 {
     println!("words completed at least once: {user} as user, {supervisor} as supervisor, of {carried} that do not always answer 5");
     let [quotient, overflow, zero] = [0, 1, 2].map(|i| c.divided[i].len());
     println!("words of DIVU.W and DIVS.W completed with a quotient: {quotient}, with an overflow: {overflow}, by zero: {zero}, of 1024");
+    let [plain, up, down] = [0, 1, 2].map(|i| c.summed[i].len());
+    let kinds = words::KINDS as usize;
+    println!(
+        "word products summed without an overflow: {plain} of {kinds} kinds (mode, halves, load, scale, sign, OMC, RT), \
+         with one upwards: {up}, downwards: {down}, of 896"
+    );
+    if plain < kinds {
+        println!("{} kinds of word products were never summed", kinds - plain);
+    }
     if c.differ > 0 {
         println!("differing, by call, word and the two replies:");
         for (key, (n, _)) in c.groups.iter().take(60) {
@@ -836,5 +863,5 @@ pub extern "C" fn main() -> i32 {
         }
     }
     println!("{} cases, {} differ", c.cases, c.differ);
-    (c.differ > 0) as i32
+    (c.differ > 0 || plain < kinds) as i32
 }

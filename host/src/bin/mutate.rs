@@ -11,9 +11,9 @@ mod random;
 use random::Random;
 
 /// Functions that no compared call reaches: the original's loops, hooks and compiled code, and what is not carried.
-const OUTSIDE: [&str; 23] = [
+const OUTSIDE: [&str; 22] = [
     "new", "set_hook", "hooked", "strict_fault", "icount", "run", "run_block", "run_compiled", "jit_async", "jit_stats", "compile_block",
-    "run_ops_slice", "run_ops", "run_ops_loop", "step", "movec_write", "cache_sync", "movec_read", "mac_word", "acc_phys",
+    "run_ops_slice", "run_ops", "run_ops_loop", "step", "movec_write", "cache_sync", "movec_read", "acc_phys",
     "acc_get", "default", "fmt",
 ];
 

@@ -27,6 +27,9 @@ mod oracle;
 mod random;
 #[path = "../witnesses.rs"]
 mod witnesses;
+#[path = "../words.rs"]
+#[allow(dead_code)]
+mod words;
 include!(concat!(env!("OUT_DIR"), "/original.rs"));
 
 use cases::{accumulator, data, edge, put, same, tame, Call, Case, Random};
@@ -223,7 +226,7 @@ impl Vectors {
         };
         let mut words = words;
         if op & 0xF100 == 0xA000 && r.of_100(90) {
-            words[0] = r.word() | 0x0800;
+            words[0] = r.word();
         }
         if op == 0x40E7 && r.of_100(80) {
             words[0] = 0x46FC;
@@ -328,6 +331,23 @@ impl Vectors {
                 put(&mut mem, s.pc + 2 * k as u32, &w.to_be_bytes());
             }
             let case = self.case(Call::Run(i % 14), &s, &mem);
+            self.add(&case);
+        }
+    }
+
+    /// Steps of MAC and MSAC of words, all of which complete.
+    fn words(&mut self) {
+        for (i, kind) in words::Kind::some().enumerate() {
+            let mut s = self.aim(0xA000);
+            let (form, at) = (self.r.below(4) as u16, self.place());
+            let code = words::ready(&mut self.r, &mut s, kind, form, words::STARTS[i % 3], at);
+            let mut mem = self.code(s.pc, code[0]);
+            for (k, w) in code.iter().enumerate() {
+                put(&mut mem, s.pc + 2 * k as u32, &w.to_be_bytes());
+            }
+            let case = self.case(Call::Step, &s, &mem);
+            let answer = case.expected(&mut self.oracle);
+            assert!(answer.reply == Reply::Done && answer.value == 0, "a product of words that does not complete");
             self.add(&case);
         }
     }
@@ -438,6 +458,7 @@ pub extern "C" fn main() -> i32 {
     v.lengths(160);
     v.entries(288);
     v.runs(140);
+    v.words();
     v.refused(216);
     let sampled = v.records;
     if v.witnesses() > 0 {

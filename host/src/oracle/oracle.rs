@@ -81,22 +81,10 @@ impl Oracle {
         Ok(self.get())
     }
 
-    /// The words that answer 5, and the order in which they come to it.
+    /// Whether the word at PC is inside and answers 5.
     fn not_carried(s: &State, mem: &[u8]) -> bool {
-        let word = |at: u32| {
-            let at = at as usize;
-            mem.get(at..at + 2).map(|b| u16::from_be_bytes([b[0], b[1]]))
-        };
-        let Some(op) = word(s.pc) else { return false };
-        if never_carried(op) {
-            return true;
-        }
-        if op & 0xF100 == 0xA000 {
-            let Some(ext) = word(s.pc.wrapping_add(2)) else { return false };
-            let line_a = op & 0x30 == 0x30;
-            return !line_a && ext & 0x0800 == 0;
-        }
-        false
+        let at = s.pc as usize;
+        mem.get(at..at + 2).is_some_and(|b| never_carried(u16::from_be_bytes([b[0], b[1]])))
     }
 
     /// A step on the memory that the original has.

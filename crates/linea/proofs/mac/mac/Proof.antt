@@ -1,4 +1,4 @@
-use borrow.Author.Tests.{eq-eqb, ne-eqb}
+use borrow.Author.Tests.{lt-ltb, le-ltb, le-leb, lt-leb, eq-eqb, ne-eqb}
 use Rattle.instructions.specs.LineA.{mac as macOf}
 use borrow.Author.Needs.{needs}
 use Rattle.linea.proofs.mac.mac.Statement.{statement}
@@ -13,18 +13,12 @@ returns c =
 returns-2 : tie.Need-returns-2
 unfolding macOf
 returns-2 c =
-    let c1 = c .before in let c2 = c1 .before in let c3 = c2 .before in let c4 = c3 .before in let c5 = c4 .before in let c6 = c5 .before in let c7 = c6 .before in
-    rw (← c7 .plus .ensures, ← c6 .load .ensures, c4 .w .given .1, eq-eqb _ _ (c2 .if1 .taken), eq-eqb _ _ (c1 .if2 .taken), ← c .not-carried .ensures)
+    let c1 = c .before in let c2 = c1 .before in let c3 = c2 .before in let c4 = c3 .before in let c5 = c4 .before in let c6 = c5 .before in
+    rw (← c6 .plus .ensures, ← c5 .load .ensures, c3 .w .given .1, eq-eqb _ _ (c1 .if1 .taken), ← c .mac-registers .ensures)
 
 returns-3 : tie.Need-returns-3
 unfolding macOf
 returns-3 c =
-    let c1 = c .before in let c2 = c1 .before in let c3 = c2 .before in let c4 = c3 .before in let c5 = c4 .before in let c6 = c5 .before in let c7 = c6 .before in
-    rw (← c7 .plus .ensures, ← c6 .load .ensures, c4 .w .given .1, eq-eqb _ _ (c2 .if1 .taken), ne-eqb _ _ (c1 .if2 .left), ← c .mac-registers .ensures)
-
-returns-4 : tie.Need-returns-4
-unfolding macOf
-returns-4 c =
     let c1 = c .before in let c2 = c1 .before in let c3 = c2 .before in let c4 = c3 .before in let c5 = c4 .before in let c6 = c5 .before in
     rw (← c6 .plus .ensures, ← c5 .load .ensures, c3 .w .given .1, ne-eqb _ _ (c1 .if1 .left), ← c .mac-with-load .ensures)
 
@@ -40,7 +34,5 @@ mac-spec =
     returns
     (λ c κs. tt)
     (λ c κs. tt)
-    (λ c κs. tt)
     returns-2
-    returns-3
-    returns-4)
+    returns-3)

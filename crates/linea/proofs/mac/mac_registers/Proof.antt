@@ -6,8 +6,8 @@ use Rattle.linea.proofs.mac.mac_registers.Tie as tie
 returns : tie.Need-returns
 unfolding macRegistersOf
 returns c =
-    let c1 = c .before in let c2 = c1 .before in let c3 = c2 .before in let c4 = c3 .before in
-    rw (← c4 .plus .ensures, ← c3 .no-write .ensures, ← c2 .general .ensures, ← c1 .general2 .ensures, ← c .acting .ensures)
+    let c1 = c .before in let c2 = c1 .before in let c3 = c2 .before in let c4 = c3 .before in let c5 = c4 .before in
+    rw (← c5 .plus .ensures, ← c4 .no-write .ensures, ← c3 .general .ensures, ← c2 .general2 .ensures, ← c1 .accumulating .ensures, ← c .acting .ensures)
 
 pub mac-registers-spec : {M : Type 1} → statement M
 mac-registers-spec =
@@ -19,6 +19,7 @@ mac-registers-spec =
     (λ c. search needs)
     (λ c. search needs)
     (λ c. search needs)
+    (λ c κs. tt)
     (λ c κs. tt)
     (λ c κs. tt)
     (λ c κs. tt)

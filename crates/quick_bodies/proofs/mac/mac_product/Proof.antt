@@ -4,17 +4,17 @@ use borrow.Author.Needs.{needs}
 use Rattle.quick_bodies.proofs.mac.mac_product.Statement.{statement}
 use Rattle.quick_bodies.proofs.mac.mac_product.Tie as tie
 
+returns-2 : tie.Need-returns-2
+unfolding mac
+returns-2 c = λ sr e.
+    let c1 = c .before in let c2 = c1 .before in let c3 = c2 .before in let c4 = c3 .before in let c5 = c4 .before in let c6 = c5 .before in let c7 = c6 .before in
+    rw (← c7 .plus .ensures, ← c6 .load .ensures, c4 .w .given .1, eq-eqb _ _ (c2 .if1 .taken)) (c .mac-registers .ensures sr e)
+
 returns-3 : tie.Need-returns-3
 unfolding mac
 returns-3 c = λ sr e.
-    let c1 = c .before in let c2 = c1 .before in let c3 = c2 .before in let c4 = c3 .before in let c5 = c4 .before in let c6 = c5 .before in let c7 = c6 .before in let c8 = c7 .before in
-    rw (← c8 .plus .ensures, ← c7 .load .ensures, c5 .w .given .1, eq-eqb _ _ (c2 .if2 .taken), ne-eqb _ _ (c3 .if1 .left)) (c .mac-registers .ensures sr e)
-
-returns-4 : tie.Need-returns-4
-unfolding mac
-returns-4 c = λ sr e.
-    let c1 = c .before in let c2 = c1 .before in let c3 = c2 .before in let c4 = c3 .before in let c5 = c4 .before in let c6 = c5 .before in let c7 = c6 .before in let c8 = c7 .before in
-    rw (← c8 .plus .ensures, ← c7 .load .ensures, c5 .w .given .1, ne-eqb _ _ (c2 .if2 .left)) (c .mac-with-load .ensures sr e)
+    let c1 = c .before in let c2 = c1 .before in let c3 = c2 .before in let c4 = c3 .before in let c5 = c4 .before in let c6 = c5 .before in let c7 = c6 .before in
+    rw (← c7 .plus .ensures, ← c6 .load .ensures, c4 .w .given .1, ne-eqb _ _ (c2 .if1 .left)) (c .mac-with-load .ensures sr e)
 
 pub mac-product-spec : {M : Type 1} → statement M
 mac-product-spec =
@@ -25,8 +25,7 @@ mac-product-spec =
     (λ c. search needs)
     (λ c. search needs)
     (λ c. search needs)
-    (λ c. search needs)
     (λ c κs. tt)
-    returns-3
-    (λ c κs. search needs)
-    returns-4)
+    returns-2
+    (λ c κs. tt)
+    returns-3)

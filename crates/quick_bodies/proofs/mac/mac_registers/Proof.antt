@@ -10,8 +10,8 @@ use Rattle.quick_bodies.proofs.mac.mac_registers.Tie as tie
 returns : tie.Need-returns
 unfolding inUnit macRegisters acting noWrite written
 returns c = λ sr e.
-    let c1 = c .before in let c2 = c1 .before in
-    rw (kept-status sr, ← c2 .general .ensures, ← c1 .general2 .ensures, c .plus .ensures)
+    let c1 = c .before in let c2 = c1 .before in let c3 = c2 .before in
+    rw (c .product-by .ensures, kept-status sr, ← c3 .general .ensures, ← c2 .general2 .ensures, c1 .plus .ensures)
 
 pub mac-registers-spec : {M : Type 1} → statement M
 mac-registers-spec =
@@ -21,6 +21,7 @@ mac-registers-spec =
     (λ c. search needs)
     (λ c. search needs)
     (λ c. search needs)
+    (λ c κs. tt)
     (λ c κs. tt)
     (λ c κs. tt)
     (λ c κs. tt)
