@@ -28,6 +28,9 @@ neg-right x (negsuc n) = rw (*ℤ-negsuc x n, negℤ-negℤ (x *ℤ pos (suc n))
 neg-left : (x y : ℤ) → negℤ x *ℤ y ≡ negℤ (x *ℤ y)
 neg-left x y = *ℤ-comm (negℤ x) y ∙ neg-right y x ∙ ap negℤ (*ℤ-comm y x)
 
+below-zero : (q r : ℕ) → q ≡ suc r → negℤ (pos q) ≡ negsuc r
+below-zero q r e = ap (λ n. negℤ (pos n)) e
+
 abs-neg : (x : ℤ) → natAbs (negℤ x) ≡ natAbs x
 abs-neg (pos zero) = refl
 abs-neg (pos (suc n)) = refl
@@ -73,18 +76,12 @@ module _ (h : ℕ) (small : h < 2 ^ 16) where
   unfolding cut
   shifted = by-lt h (2 ^ 15)
       (λ l. rw (signed-pos (2 ^ 15) h l) (signed-pos (2 ^ 31) _ (omega arith) ∙ ap pos (omega arith)))
-      (λ l. rw (signed-neg (2 ^ 15) h l) (signed-neg (2 ^ 31) _ (omega arith) ∙ below (suc (2 ^ 16 - suc h) * 2 ^ 16) (omega arith)))
-    where
-      below : (q : ℕ) → suc (2 ^ 32 - suc (h * 2 ^ 16 % 2 ^ 32)) ≡ q → negsuc (2 ^ 32 - suc (h * 2 ^ 16 % 2 ^ 32)) ≡ negℤ (pos q)
-      below q e = ap (λ n. negℤ (pos n)) e
+      (λ l. rw (signed-neg (2 ^ 15) h l) (signed-neg (2 ^ 31) _ (omega arith) ∙ sym (below-zero (suc (2 ^ 16 - suc h) * 2 ^ 16) _ (omega arith))))
 
   within : natAbs (signedAt (2 ^ 15) h) ≤ 2 ^ 15
   within = by-lt h (2 ^ 15) (λ l. rw (signed-pos (2 ^ 15) h l) (omega arith)) (λ l. rw (signed-neg (2 ^ 15) h l) (omega arith))
 
 -- ---- a product of halves
-
-below-zero : (q r : ℕ) → q ≡ suc r → negℤ (pos q) ≡ negsuc r
-below-zero q r e = ap (λ n. negℤ (pos n)) e
 
 -- a product of fractions ends in 32 zeros, and 23 of them are cut off
 not-rounded : (rt : Bool) (z : ℤ) → rounded rt (z *ℤ pos (2 ^ 32)) (2 ^ 23) ≡ z *ℤ pos (2 ^ 9)
