@@ -1,12 +1,13 @@
 -- A single bit in its number, and the bits in reverse order. Assumes nothing.
-use mathlib.Core.Path.{_≡_, refl, sym}
+use mathlib.Core.Path.{_≡_, refl, sym, ap, _∙_}
 use mathlib.Core.Bool.{Bool, true, false}
 use Prim.Native.Nat.{ℕ, zero, suc, _+_, _-_, _*_, _/_, _%_, _^_, _≤_, _<_}
-use native.Mathlib.Nat.{mod-lt, mul-le-mul-right, pow-suc}
+use native.Mathlib.Nat.{zero-add, zero-mul, suc-add, div-one, mod-lt, mul-le-mul-right, pow-suc}
 use native.Mathlib.Numerals.{one-add}
 use native.Mathlib.Omega.{arith}
 use lib.Dec.{eqb}
-use lib.Pow.{pow-pos, pow-add, split, mod-pow-add, shr-lt, shl-exact}
+use lib.Bits.{block-half, block-odd}
+use lib.Pow.{pow-pos, pow-add, split, mod-pow-add, shr-lt, shr-shr, shl-exact}
 use borrow.Author.Tests.{eqb-true, eqb-false}
 use Rattle.manual.specs.Word.{bit}
 use Rattle.manual.specs.Bits.{bitOf, withBit, reversedBits}
@@ -69,14 +70,19 @@ unfolding reversedBits
 reversed-below zero v = omega arith
 reversed-below (suc n) v = omega (arith, digit-at-most (v % 2) (2 ^ n) (omega arith), reversed-below n (v / 2), pow-twice n)
 
-pub reversed-none : (n v : ℕ) → n ≡ 0 → reversedBits n v ≡ 0
+-- only the n low bits count
+pub reversed-low : (n a r : ℕ) → reversedBits n (a * 2 ^ n + r) ≡ reversedBits n r
 unfolding reversedBits
-reversed-none n v e = rw e
+reversed-low zero a r = refl
+reversed-low (suc n) a r = rw (block-odd a n r, block-half a n r, reversed-low n a (r / 2))
 
--- the lowest bit goes to the highest place
-pub reversed-lowest : (n v : ℕ) → 0 < n → v % 2 * 2 ^ (n - 1) + reversedBits (n - 1) (v / 2) ≡ reversedBits n v
+pub reversed-mod : (n v : ℕ) → reversedBits n (v % 2 ^ n) ≡ reversedBits n v
+reversed-mod n v = sym (reversed-low n (v / 2 ^ n) (v % 2 ^ n)) ∙ ap (reversedBits n) (split v n)
+
+-- the low part goes to the top
+pub reversed-add : (m n v : ℕ) → reversedBits (m + n) v ≡ reversedBits m v * 2 ^ n + reversedBits n (v / 2 ^ m)
 unfolding reversedBits
-reversed-lowest zero v h = omega arith
-reversed-lowest (suc n) v h =
-    let e : suc n - 1 ≡ n = omega arith in
-    rw e
+reversed-add zero n v = rw (zero-add n, div-one v, zero-mul (2 ^ n), zero-add (reversedBits n v))
+reversed-add (suc m) n v =
+    let above : v / 2 ^ suc m ≡ v / 2 / 2 ^ m = rw (← one-add m, ← shr-shr v 1 m) in
+    rw (suc-add m n, above, reversed-add m n (v / 2), pow-add 2 m n) (omega arith)

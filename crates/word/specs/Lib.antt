@@ -3,4 +3,5 @@ pub mod RegisterLaws
 pub mod SignedLaws
 pub mod WordLaws
 pub mod BitLaws
+pub mod SwapLaws
 pub mod RaisedLaws

@@ -33,20 +33,15 @@ pub fn with_bit(n: u32, b: bool, v: u32) -> u32
     v - old + new
 }
 
-// The 32 bits in the other order.
-// The lowest bit of the rest goes to the highest place that is left.
+// The 32 bits in the other order: halves change places, then bytes, nibbles, pairs and bits.
 pub fn reversed_bits(v: u32) -> u32
     ensures { λ r. ⌜ r ≡ reversedBits 32 v ⌝ }
 {
-    let mut rest = v;
-    let mut done = 0;
-    let mut left: u32 = 32;
-    while left > 0 {
-        left -= 1;
-        done += (rest % 2) << left;
-        rest /= 2;
-    }
-    done
+    let mut r = ((v & 0x0000_FFFF) << 16) | ((v >> 16) & 0x0000_FFFF);
+    r = ((r & 0x00FF_00FF) << 8) | ((r >> 8) & 0x00FF_00FF);
+    r = ((r & 0x0F0F_0F0F) << 4) | ((r >> 4) & 0x0F0F_0F0F);
+    r = ((r & 0x3333_3333) << 2) | ((r >> 2) & 0x3333_3333);
+    ((r & 0x5555_5555) << 1) | ((r >> 1) & 0x5555_5555)
 }
 
 // The four bytes in the other order.
