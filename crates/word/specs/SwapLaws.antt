@@ -8,18 +8,18 @@ use lib.Bits.{bitAnd, bitOr, and-block, and-mask, and-le-r, or-lt, or-block, or-
 use Rattle.manual.specs.Bits.{reversedBits}
 use Rattle.word.specs.BitLaws.{reversed-low, reversed-mod, reversed-add}
 
--- In a long, the bits that `low` has go up by w, and those w above them come down.
-unfoldable pub swappedBy : ℕ → ℕ → ℕ → ℕ
-swappedBy w low v = bitOr (bitAnd v low * 2 ^ w % 2 ^ 32) (bitAnd (v / 2 ^ w) low)
-
-pub swapped-long : (w low v : ℕ) → low < 2 ^ 32 → swappedBy w low v < 2 ^ 32
-unfolding swappedBy
-swapped-long w low v h = or-lt 32 _ _ (mod-lt (bitAnd v low * 2 ^ w) (pow-pos 32)) (lt-of-le-of-lt (and-le-r (v / 2 ^ w) low) h)
-
 -- the mask of the lower field, of w bits, in each of m pairs of fields
 unfoldable pub lowFields : ℕ → ℕ → ℕ
 lowFields w zero = 0
 lowFields w (suc m) = lowFields w m * 2 ^ (w + w) + (2 ^ w - 1)
+
+-- a long in which the two fields of each pair change places
+unfoldable pub swapped : ℕ → ℕ → ℕ → ℕ
+swapped w m v = bitOr (bitAnd v (lowFields w m) * 2 ^ w % 2 ^ 32) (bitAnd (v / 2 ^ w) (lowFields w m))
+
+pub swapped-long : (w m v : ℕ) → lowFields w m < 2 ^ 32 → swapped w m v < 2 ^ 32
+unfolding swapped
+swapped-long w m v h = or-lt 32 _ _ (mod-lt (bitAnd v (lowFields w m) * 2 ^ w) (pow-pos 32)) (lt-of-le-of-lt (and-le-r (v / 2 ^ w) (lowFields w m)) h)
 
 -- m groups of n bits, each at its place with its bits in reverse order
 unfoldable pub turned : ℕ → ℕ → ℕ → ℕ
@@ -34,7 +34,7 @@ unfolding turned reversedBits
 turned-bits zero v h = omega arith
 turned-bits (suc m) v h = omega (arith, turned-bits m (v / 2) (omega (arith, pow-suc 2 m)))
 
--- one group is all
+-- one group: its bits in reverse order
 pub turned-whole : (n v : ℕ) → turned n 1 v ≡ reversedBits n v
 unfolding turned
 turned-whole n v = omega arith
@@ -54,7 +54,7 @@ module _ (w : ℕ) where
       ∙ and-block (w + w) (v / 2 ^ (w + w)) low (v % 2 ^ (w + w)) (2 ^ w - 1) (mod-lt v (pow-pos (w + w))) wide
       ∙ ap (λ (n : ℕ). bitAnd (v / 2 ^ (w + w)) low * 2 ^ (w + w) + n) (and-mask (v % 2 ^ (w + w)) w ∙ mod-mod-pow v w w)
 
-  -- `swappedBy` where nothing is lost at the top
+  -- `swapped` by a mask, where nothing is lost at the top
   abbrev exchanged : ℕ → ℕ → ℕ
   exchanged low v = bitOr (bitAnd v low * 2 ^ w) (bitAnd (v / 2 ^ w) low)
 
@@ -95,8 +95,8 @@ module _ (w : ℕ) where
       ) (omega arith)
 
   -- To reverse groups of w + w bits, let the two fields of each change places, and reverse the fields.
-  pub swap-law : (m v : ℕ) → lowFields w m * 2 ^ w < 2 ^ 32 → turned w (m + m) (swappedBy w (lowFields w m) v) ≡ turned (w + w) m v
-  unfolding swappedBy
+  pub swap-law : (m v : ℕ) → lowFields w m * 2 ^ w < 2 ^ 32 → turned w (m + m) (swapped w m v) ≡ turned (w + w) m v
+  unfolding swapped
   swap-law m v h =
       let whole : bitAnd v (lowFields w m) * 2 ^ w % 2 ^ 32 ≡ bitAnd v (lowFields w m) * 2 ^ w = mod-eq-of-lt (lt-of-le-of-lt (mul-le-mul-right (2 ^ w) (and-le-r v (lowFields w m))) h) in
       rw whole (exchanged-turned m v)
