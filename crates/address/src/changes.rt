@@ -17,7 +17,7 @@ use word::registers::write_data;
 use word::word::merged;
 use word::word::minus;
 ghost use mathlib.Core.Path.{_≡_};
-ghost use Rattle.manual.specs.Change.{done as doneOf, store as storeOf, acting as actingOf, enterAfter, enter as enterOf, illegal as illegalOf, privilege as privilegeOf, refuse as refuseOf, refused as refusedOf, notCarried, jump as jumpOf, push as pushOf, put as putOf, putTo};
+ghost use Rattle.manual.specs.Change.{done as doneOf, store as storeOf, acting as actingOf, enterAfter, enter as enterOf, illegal as illegalOf, privilege as privilegeOf, refuse as refuseOf, refused as refusedOf, jump as jumpOf, push as pushOf, put as putOf, putTo};
 ghost use Rattle.manual.specs.Reply.{faultReply};
 
 // A change that stores nothing.
@@ -107,13 +107,6 @@ pub fn refused(x: Fault) -> Change
     ensures { λ e. ⌜ e ≡ refusedOf x ⌝ }
 {
     refuse(fault_reply(x))
-}
-
-// The refusal of a word that is not carried yet: reply 5.
-pub fn not_carried() -> Change
-    ensures { λ e. ⌜ e ≡ notCarried ⌝ }
-{
-    refuse(Reply::NotCarried)
 }
 
 // A change of the PC alone.

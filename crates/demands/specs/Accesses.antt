@@ -168,8 +168,8 @@ module _ (g : List ℕ) (at : ℕ) (m : Memory) (op : ℕ) where
       wordAt (plus at 2) ∷  -- STOP
       none ∷  -- RTE
       longAt (addressOf g 7) ∷  -- RTS
-      none ∷  -- MOVEC_READ
-      none ∷  -- MOVEC_WRITE
+      wordAt (plus at 2) ∷  -- MOVEC_READ
+      wordAt (plus at 2) ∷  -- MOVEC_WRITE
       none ∷  -- HALT
       none ∷  -- PULSE
       none ∷  -- ILLEGAL

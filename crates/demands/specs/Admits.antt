@@ -16,7 +16,7 @@ use Rattle.manual.specs.declared.Got.the-variants.{Value, Fault as NoValue}
 use Rattle.manual.specs.declared.Reply.the-variants.{Done, NotAdmitted, Stopped, OutOfRange, Masked, WrongVersion, WrongLength}
 use Rattle.manual.specs.declared.Answer.{Answer}
 use Rattle.manual.specs.declared.Action.{Action}
-use Rattle.manual.specs.declared.Action.the-variants.{Nothing, Store, StoreMany, LoadMany, Enter, Return, Status, Stop, PushStatus, Halt, SetOther, Accumulate, SetAcc, SetExt, SetMacsr, SetMask, CopyAcc, ClearAcc, Refuse}
+use Rattle.manual.specs.declared.Action.the-variants.{Nothing, Store, StoreMany, LoadMany, Enter, Return, Status, Stop, PushStatus, Halt, SetOther, Accumulate, SetAcc, SetExt, SetMacsr, SetMask, CopyAcc, ClearAcc, MoveControl, Refuse}
 use Rattle.manual.specs.declared.Change.{Change}
 use Rattle.manual.specs.Word.{minus}
 use Rattle.manual.specs.Registers.{addressOf, withAddress, applied}
@@ -32,7 +32,7 @@ use Rattle.manual.specs.Image.{imageMemory, imageState, imageReply, imageBudget
 use Rattle.instructions.specs.Perform.{statusPushed, act, perform}
 use Rattle.instructions.specs.Step.{execute, step}
 use Rattle.instructions.specs.Run.{RunOutcome, ended, afterOne, steps, run}
-use Rattle.state.specs.AdmittedLaws.{admitted-emac, registers-admitted, address-admitted, other-admitted, stopped-admitted, emac-admitted, applied-admitted, set-sr-admitted}
+use Rattle.state.specs.AdmittedLaws.{admitted-emac, registers-admitted, address-admitted, other-admitted, stopped-admitted, emac-admitted, control-admitted, applied-admitted, set-sr-admitted}
 use Rattle.exceptions.specs.EntryAdmitted.{refusal-admitted, taking-admitted, entered-admitted, returned-admitted}
 use Rattle.emac.specs.EmacKept as emac
 use Rattle.calls_emac.specs.CallsKept as calls
@@ -89,6 +89,7 @@ module _ (given s : Cpu) (m : Memory) (k : admitted given ≡ true) (h : admitte
   act-admitted (SetMask v) = emac-admitted _ s (emac.set-mask-kept (s .emac) (admitted-emac s h) v) h
   act-admitted (CopyAcc from to) = emac-admitted _ s (emac.copy-acc-kept (s .emac) (admitted-emac s h) from to) h
   act-admitted (ClearAcc i) = emac-admitted _ s (emac.clear-acc-kept (s .emac) (admitted-emac s h) i) h
+  act-admitted (MoveControl writes c n) = control-admitted writes c n s h
   act-admitted (Refuse n) = refusal-admitted given n k
 
 perform-admitted : (s : Cpu) (c : Change) (m : Memory) → admitted s ≡ true → admitted (perform s c m .stepped .cpu) ≡ true

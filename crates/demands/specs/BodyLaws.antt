@@ -3,7 +3,6 @@ use Prim.Native.Nat.{ℕ, zero, suc, _+_, _%_}
 use mathlib.Core.Path.{_≡_, refl}
 use mathlib.Core.Bool.{Bool, true, false, cond}
 use mathlib.Core.List.{List, [], _∷_, _++_}
-use mathlib.Core.Logic.{_⊎_, inl, inr}
 use native.Mathlib.Omega.{arith}
 use lib.Dec.{eqb, ltb}
 use lib.ListN.{getD}
@@ -23,7 +22,9 @@ use Rattle.manual.specs.declared.Logic.{Logic}
 use Rattle.manual.specs.declared.Logic.the-variants.{And, Or, Eor}
 use Rattle.manual.specs.declared.Operand.{Operand}
 use Rattle.manual.specs.declared.Operand.the-variants.{Immediate}
-use Rattle.manual.specs.declared.Action.the-variants.{Nothing, ClearAcc}
+use Rattle.manual.specs.declared.Action.the-variants.{Nothing, ClearAcc, MoveControl}
+use Rattle.manual.specs.declared.ControlRegister.the-variants.{Cacr, Vbr}
+use Rattle.manual.specs.declared.Named.the-variants.{Control, Unknown}
 use Rattle.manual.specs.declared.Sum.{Sum}
 use Rattle.manual.specs.declared.Write.{Write}
 use Rattle.manual.specs.declared.Quotient.{Quotient}
@@ -31,7 +32,7 @@ use Rattle.manual.specs.declared.Change.{Change}
 use Rattle.manual.specs.Word.{plus, minus, signExtended}
 use Rattle.manual.specs.Bits.{logic, bitOf, withBit, changedBit}
 use Rattle.manual.specs.Flags.{moveCodes, sumCodes, sumOrDifference}
-use Rattle.manual.specs.Fields.{bits, upper, upperMode, mode, register, sizeField, byteOrWord, bitOperator, lowByte, lowFour, accField, extField}
+use Rattle.manual.specs.Fields.{bits, upper, upperMode, mode, register, sizeField, byteOrWord, bitOperator, lowByte, lowFour, highFour, controlField, accField, extField}
 use Rattle.manual.specs.Registers.{dataOf, addressOf, noWrite}
 use Rattle.word.specs.WordLaws.{plus-below}
 use Rattle.manual.specs.Memory.{Memory, storageOf, access, firstFault, found, load, numberAt}
@@ -39,7 +40,8 @@ use Rattle.manual.specs.Address.{operand, extension, source, locate, value, con
 use Rattle.manual.specs.Differences.{anySize}
 use Rattle.manual.specs.Emac.{fractional, readExt}
 use Rattle.manual.specs.Exceptions.{supervisor}
-use Rattle.manual.specs.Change.{done, store, acting, enter, illegal, privilege, notCarried, jump, push, reading, reaching, result}
+use Rattle.manual.specs.Control.{controlRegister}
+use Rattle.manual.specs.Change.{done, store, acting, enter, illegal, privilege, jump, push, reading, reaching, result}
 use Rattle.instructions.specs.Rows.{firstRow, placeIn}
 use Rattle.instructions.specs.Line0 as l0
 use Rattle.instructions.specs.Moves as moves
@@ -59,14 +61,7 @@ use Rattle.demands.specs.Accesses.{Wanted, none, wordAt, longAt, words, 
 use Rattle.demands.specs.FitLaws.{moved-long}
 use Rattle.demands.specs.Effects as eff
 use Rattle.demands.specs.Effects.{Effect, nothing, storesMany, loadsMany, enters, returns, illegalWord, privileged, zero-divide, violation, line-a, line-f, trapped}
-use Rattle.demands.specs.PartLaws.{quiet, Does, does-nothing, does-store, does-push, does-store-many, does-load-many, does-enter, does-return, accessAll, Made, illegal-does, privilege-does, cond-made, either-made, either-reads, either-quiet, load-made, missing, missing-found, unreached, reading-only, locate-made, put-made, locating-made, source-made, source-only, of-data, missing-immediate, control-missed, reaching-made, end, row, out, listed, all-made, put-to-made, destination-found, destination-made, updating-made}
-
--- the rows MOVEC_READ and MOVEC_WRITE, which are not carried, by their places in line 4
-abbrev pub movecRead : ℕ
-movecRead = firstRow 4 + 4
-
-abbrev pub movecWrite : ℕ
-movecWrite = firstRow 4 + 5
+use Rattle.demands.specs.PartLaws.{quiet, Does, does-nothing, does-store, does-push, does-store-many, does-load-many, does-enter, does-return, accessAll, Made, illegal-does, privilege-does, cond-made, either-made, either-reads, either-quiet, load-made, missing, missing-found, unreached, reading-only, locate-made, put-made, locating-made, source-made, source-only, of-data, missing-immediate, control-missed, reaching-made, end, row, all-made, put-to-made, destination-found, destination-made, updating-made}
 
 module _ (g : List ℕ) (at sr : ℕ) (m : Memory) (op : ℕ) where
   abbrev Makes : List Wanted → Effect → Change → Type 0
@@ -241,6 +236,24 @@ module _ (g : List ℕ) (at sr : ℕ) (m : Memory) (op : ℕ) where
   unfolding l4.moveFromUsp done
   from-usp other = allowed _ _ (does-nothing refl)
 
+  movec-made : (writes : Bool) → Makes (wordAt (plus at 2)) (eff.controlEffect g at sr m op) (l4.movec writes at sr m)
+  unfolding l4.movec controlRegister acting
+  movec-made writes =
+      let rc : ℕ = controlField (numberAt m (plus at 2) Word) in
+      load-made at sr m (plus at 2) Word [] _ _ (allowed _ _ (by (eqb rc 0x002) (eqb rc 0x801)))
+    where
+      next : ℕ
+      next = plus (plus at 2) 2
+
+      n : ℕ
+      n = highFour (numberAt m (plus at 2) Word)
+
+      by : (a b : Bool) → Does at sr (cond a nothing (cond b nothing (illegalWord at)))
+          (l4.naming sr at (cond a (Control Cacr) (cond b (Control Vbr) Unknown)) λ c. acting sr next noWrite (MoveControl writes c n))
+      by true b = does-nothing refl
+      by false true = does-nothing refl
+      by false false = illegal-does at sr
+
   from-sr : Makes none (privileged at sr (cond (eqb (mode op) 0) nothing (illegalWord at))) (l4.moveFromSr g at sr op)
   unfolding l4.moveFromSr done
   from-sr = allowed _ _ (either-made at sr m (eqb (mode op) 0) [] _ _ _ _ (does-nothing refl) (illegal-does at sr))
@@ -319,17 +332,16 @@ module _ (g : List ℕ) (at sr : ℕ) (m : Memory) (op : ℕ) where
       (load-made at sr m (plus at 2) Word (operandAt g m (plus at 4) op Long) _ _
       (source-only at sr m g (plus at 4) op Long _ _ (divide-does (plus at 4) Long q (l4.quotientTo w q))))
 
-  pub line4-made : (other n : ℕ) → ((firstRow 4 + placeIn (firstRow 4) n ≡ movecRead) ⊎ (firstRow 4 + placeIn (firstRow 4) n ≡ movecWrite))
-      ⊎ Makes (acc.reads4 g at m op n) (eff.effects4 g at sr m op n) (l4.line4 n g at sr other m op)
+  pub line4-made : (other n : ℕ) → Makes (acc.reads4 g at m op n) (eff.effects4 g at sr m op n) (l4.line4 n g at sr other m op)
   unfolding acc.reads4 eff.effects4 l4.line4 l4.nop l4.halt l4.trap l4.moveFromCcr l4.swap l4.extb l4.extW l4.extL l4.sats l4.neg l4.negx l4.not jump done acting enter
   line4-made other n =
-      listed at sr m {P = λ k. (k ≡ movecRead) ⊎ (k ≡ movecWrite)}
+      all-made at sr m
       (row none nothing (l4.nop at sr) (does-nothing refl)
       (row (wordAt (plus at 2)) (privileged at sr nothing) (l4.stop at sr m) stop-made
       (row none (privileged at sr returns) (l4.rte at sr) rte-made
       (row (longAt (addressOf g 7)) nothing (l4.rts g sr m) rts-made
-      (out none nothing notCarried (inl refl)
-      (out none nothing notCarried (inr refl)
+      (row (wordAt (plus at 2)) (eff.controlEffect g at sr m op) (l4.movec false at sr m) (movec-made false)
+      (row (wordAt (plus at 2)) (eff.controlEffect g at sr m op) (l4.movec true at sr m) (movec-made true)
       (row none nothing (l4.halt at sr) (does-nothing refl)
       (row none nothing (l4.nop at sr) (does-nothing refl)
       (row none (illegalWord at) (illegal at sr) (illegal-does at sr)
@@ -365,7 +377,7 @@ module _ (g : List ℕ) (at sr : ℕ) (m : Memory) (op : ℕ) where
       (row address-words (eff.controlled g at sr m op (λ a. nothing)) (l4.lea g at sr m op) lea-made
       (row none (illegalWord at) (illegal at sr) (illegal-does at sr)
       end))))))))))))))))))))))))))))))))))))))))
-      (placeIn (firstRow 4) n) none (illegalWord at) (illegal at sr) (illegal-does at sr)
+      (placeIn (firstRow 4) n)
 
   -- ---- lines 9 and D, and 5
 

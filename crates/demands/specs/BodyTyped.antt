@@ -26,16 +26,19 @@ use Rattle.manual.specs.declared.Got.the-variants.{Value, Fault as NoValue}
 use Rattle.manual.specs.declared.Reached.{Reached}
 use Rattle.manual.specs.declared.Reached.the-variants.{At, NoAddress}
 use Rattle.manual.specs.declared.Action.{Action}
-use Rattle.manual.specs.declared.Action.the-variants.{Nothing, CopyAcc, ClearAcc, Return, Status, Stop, PushStatus, Halt, SetOther}
+use Rattle.manual.specs.declared.Action.the-variants.{Nothing, CopyAcc, ClearAcc, Return, Status, Stop, PushStatus, Halt, SetOther, MoveControl}
+use Rattle.manual.specs.declared.Named.{Named}
+use Rattle.manual.specs.declared.Named.the-variants.{Control, Unknown}
 use Rattle.manual.specs.declared.Change.{Change}
 use Rattle.manual.specs.Word.{plus, numbers, merged}
 use Rattle.manual.specs.Bits.{bitOf}
 use Rattle.manual.specs.Flags.{flagX, flagV}
 use Rattle.manual.specs.Exceptions.{supervisor}
+use Rattle.manual.specs.Control.{controlRegister}
 use Rattle.manual.specs.Conditions.{condition}
 use Rattle.manual.specs.Shift.{shiftedLeft, shiftedRight, signedShiftedRight}
 use Rattle.manual.specs.Emac.{fractional}
-use Rattle.manual.specs.Fields.{bits, upper, upperMode, mode, register, bitOperator, sizeField, byteOrWord, lowByte, conditionField, accField, extField, line}
+use Rattle.manual.specs.Fields.{bits, upper, upperMode, mode, register, bitOperator, sizeField, byteOrWord, lowByte, highFour, controlField, conditionField, accField, extField, line}
 use Rattle.manual.specs.Registers.{dataOf, addressOf, noWrite, writeData, writeAddress, writeGeneral, written}
 use Rattle.manual.specs.Memory.{Memory, storageOf, load}
 use Rattle.manual.specs.Address.{operand, operandOf, fetch, value, source, control, destination, destinationOf}
@@ -60,7 +63,7 @@ use Rattle.word.specs.BitLaws.{with-below, reversed-below}
 use Rattle.word.specs.WordLaws.{plus-below, minus-below}
 use Rattle.demands.specs.Exact.{Bytes}
 use Rattle.demands.specs.FitLaws as fit
-use Rattle.demands.specs.FitLaws.{IsLong, FitsLong, QuotientFits, Longs, otherIn, AllFit, end, _&_, listed-fits, either-long, no-write-long, done-fits, store-fits, data-fits, address-fits, general-fits, acting-fits, jump-fits, push-fits, either-fits, illegal-fits, not-carried-fits}
+use Rattle.demands.specs.FitLaws.{IsLong, FitsLong, QuotientFits, Longs, otherIn, AllFit, end, _&_, listed-fits, either-long, no-write-long, done-fits, store-fits, data-fits, address-fits, general-fits, acting-fits, jump-fits, push-fits, either-fits, illegal-fits}
 
 module _ (g : List ℕ) (all : Longs g) (at : ℕ) (here : IsLong at) (sr : ℕ) (m : Memory) (bytes-in : Bytes (storageOf m)) (op : ℕ) where
   -- ---- what many bodies end with
@@ -286,6 +289,14 @@ module _ (g : List ℕ) (all : Longs g) (at : ℕ) (here : IsLong at) (sr : ℕ)
   unfolding l4.moveToUsp
   to-usp = allowed _ (act-alone _ (SetOther _) (plus-below at 2) (fit.address-long g all _))
 
+  movec-fits : (writes : Bool) → FitsLong (l4.movec writes at sr m)
+  unfolding l4.movec
+  movec-fits writes = load-fits (plus at 2) Word _ (λ w h. allowed _ (by (controlRegister (controlField w)) (highFour w)))
+    where
+      by : (x : Named) (n : ℕ) → FitsLong (l4.naming sr at x λ c. acting sr (plus (plus at 2) 2) noWrite (MoveControl writes c n))
+      by (Control c) n = act-alone _ (MoveControl writes c n) (plus-below _ 2) (omega arith)
+      by Unknown n = illegal-here
+
   from-usp : (other : ℕ) → IsLong other → FitsLong (l4.moveFromUsp at sr other op)
   unfolding l4.moveFromUsp
   from-usp other h = allowed _ (address-fits _ _ noWrite _ other (plus-below at 2) no-write-long h)
@@ -420,8 +431,8 @@ module _ (g : List ℕ) (all : Longs g) (at : ℕ) (here : IsLong at) (sr : ℕ)
       & stop-fits
       & rte-fits
       & rts-fits
-      & not-carried-fits
-      & not-carried-fits
+      & movec-fits false
+      & movec-fits true
       & halt-fits
       & next-fits
       & illegal-here

@@ -17,7 +17,7 @@ use Rattle.manual.specs.declared.Stored.the-variants.{Done as Taken, Fault as N
 use Rattle.manual.specs.declared.Write.{Write}
 use Rattle.manual.specs.declared.Level.the-variants.{Kept}
 use Rattle.manual.specs.declared.Action.{Action}
-use Rattle.manual.specs.declared.Action.the-variants.{Nothing, Store, StoreMany, LoadMany, Enter, Return, Status, Stop, PushStatus, Halt, SetOther, Accumulate, SetAcc, SetExt, SetMacsr, SetMask, CopyAcc, ClearAcc, Refuse}
+use Rattle.manual.specs.declared.Action.the-variants.{Nothing, Store, StoreMany, LoadMany, Enter, Return, Status, Stop, PushStatus, Halt, SetOther, Accumulate, SetAcc, SetExt, SetMacsr, SetMask, CopyAcc, ClearAcc, MoveControl, Refuse}
 use Rattle.manual.specs.declared.Change.{Change}
 use Rattle.manual.specs.Word.{bytes, plus, minus}
 use Rattle.manual.specs.Registers.{addressOf, general, noWrite, written, withParts, withPc, applied}
@@ -99,6 +99,7 @@ quiet-act given s m (SetMacsr v) h = record { number = refl; vector = refl; same
 quiet-act given s m (SetMask v) h = record { number = refl; vector = refl; same = refl }
 quiet-act given s m (CopyAcc from to) h = record { number = refl; vector = refl; same = refl }
 quiet-act given s m (ClearAcc i) h = record { number = refl; vector = refl; same = refl }
+quiet-act given s m (MoveControl writes c n) h = record { number = refl; vector = refl; same = refl }
 quiet-act given s m (Refuse n) h = absurd (false≢true h)
 
 -- ---- what is done where memory took it

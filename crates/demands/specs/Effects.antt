@@ -21,7 +21,7 @@ use Rattle.manual.specs.declared.Logic.the-variants.{And, Or, Eor}
 use Rattle.manual.specs.declared.Level.the-variants.{Kept}
 use Rattle.manual.specs.Word.{bytes, plus, minus, signExtended}
 use Rattle.manual.specs.Bits.{logic, withBit, changedBit}
-use Rattle.manual.specs.Fields.{bits, line, upper, upperMode, mode, register, sizeField, lowByte, lowFour, bitOperator}
+use Rattle.manual.specs.Fields.{bits, line, upper, upperMode, mode, register, sizeField, lowByte, lowFour, bitOperator, controlField}
 use Rattle.manual.specs.Registers.{dataOf, addressOf, general, noWrite, written, withParts}
 use Rattle.manual.specs.Flags.{sumOrDifference}
 use Rattle.manual.specs.Memory.{Storage, Memory, numberIn, numberAt, storeAt}
@@ -140,6 +140,12 @@ module _ (g : List ℕ) (at sr : ℕ) (m : Memory) (op : ℕ) where
   abbrev pub statusEffect : Effect
   statusEffect = cond (eqb (numberAt m (plus at 2) Word) 0x46FC) (privileged at sr pushesStatus) (illegalWord at)
 
+  -- MOVEC: bits 11 to 0 of the second word are CACR's number or VBR's; any other is illegal
+  abbrev pub controlEffect : Effect
+  controlEffect =
+      let rc : ℕ = controlField (numberAt m (plus at 2) Word) in
+      privileged at sr (cond (eqb rc 0x002) nothing (cond (eqb rc 0x801) nothing (illegalWord at)))
+
   -- MOVEM in modes 2 and 5; any other is illegal
   abbrev pub manyEffect : (ℕ → ℕ → Effect) → Effect
   manyEffect many =
@@ -159,8 +165,8 @@ module _ (g : List ℕ) (at sr : ℕ) (m : Memory) (op : ℕ) where
       privileged at sr nothing ∷  -- STOP
       privileged at sr returns ∷  -- RTE
       nothing ∷  -- RTS
-      nothing ∷  -- MOVEC_READ
-      nothing ∷  -- MOVEC_WRITE
+      controlEffect ∷  -- MOVEC_READ
+      controlEffect ∷  -- MOVEC_WRITE
       nothing ∷  -- HALT
       nothing ∷  -- PULSE
       illegalWord at ∷  -- ILLEGAL

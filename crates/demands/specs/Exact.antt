@@ -5,7 +5,7 @@
 --   2  state not admitted (AdmittedMeans says which are)
 --   3  state stopped (step; run with budget left)
 --   4  an access this call makes is not inside (those of a step are listed in Accesses and Effects)
---   5  0x4E7A, 0x4E7B
+--   5  never by now: every word is carried
 --   6  level above 7, or accumulator number above 3
 --   7  interrupt masked: level below 7 and at most the mask
 --   8  block or file: first byte not 1
@@ -79,10 +79,6 @@ pub record Meanings : Type 0 where
   pub inside : (m : Memory) (a n : ℕ) → Inside m a n ↔ (a + n ≤ length (storageOf m))
   pub outside : (m : Memory) (a n : ℕ) → Outside m a n ↔ (length (storageOf m) < a + n)
 
--- a word that is not carried
-abbrev pub NotCarriedWord : ℕ → Type 0
-NotCarriedWord op = (op ≡ 0x4E7A) ⊎ (op ≡ 0x4E7B)
-
 -- the level of an entry: the mask is kept, or it is set to a level, which is at most 7
 abbrev pub LevelBelow8 : Level → Type 0
 LevelBelow8 Kept = Unit {0}
@@ -94,10 +90,9 @@ LetThrough sr level = (7 ≤ level) ⊎ (sr / 0x100 % 8 < level)
 
 -- done: nothing stands against it. (Of the calls that make no access, 0 is what is left: NoOthers.)
 pub record Reply0 : Type 0 where
-  pub step-0 : (s : Cpu) (l : Lent) → Bytes (l .storage)
+  pub step-0 : (s : Cpu) (l : Lent)
       → let m : Memory = memoryOf l in
-      (numbered (step s l) ≡ 0)
-      ↔ (Ready s l × ((s .stopped ≡ false) × ((SomeOutside m (accesses s m) → ⊥) × (NotCarriedWord (numberAt m (s .pc) Word) → ⊥))))
+      (numbered (step s l) ≡ 0) ↔ (Ready s l × ((s .stopped ≡ false) × (SomeOutside m (accesses s m) → ⊥)))
   -- a step also gives the vector it entered, or 0: that of its row (Effects)
   pub step-vector : (s : Cpu) (l : Lent) → numbered (step s l) ≡ 0 → step s l .stepped .vector ≡ vectorOf (effectOf s (memoryOf l))
   -- a run: as many steps as the budget says can be done, one after the other
@@ -167,22 +162,10 @@ pub record Reply4 : Type 0 where
   pub nop-fetched : (s : Cpu) (m : Memory) → numberAt m (s .pc) Word ≡ 0x4E71 → accesses s m ≡ wanted (s .pc) 2 ∷ []
   pub bitrev-fetched : (s : Cpu) (m : Memory) (r : ℕ) → r < 8 → numberAt m (s .pc) Word ≡ 0x00C0 + r → accesses s m ≡ wanted (s .pc) 2 ∷ []
 
+-- no step and no run gives it, whatever the state, memory and word
 pub record Reply5 : Type 0 where
-  pub step-5 : (s : Cpu) (l : Lent) → Bytes (l .storage)
-      → let m : Memory = memoryOf l in
-      (numbered (step s l) ≡ 5)
-      ↔ (Ready s l × ((s .stopped ≡ false) × (Inside m (s .pc) 2 × NotCarriedWord (numberAt m (s .pc) Word))))
-  -- a run: with budget left, in the state and memory after the steps that were done
-  pub run-5 : (budget : ℕ) (s : Cpu) (l : Lent) → Bytes (l .storage)
-      → let r : RunOutcome = run budget s l in
-      let m : Memory = memoryOf (lentOn l (r .storage)) in
-      let pc : ℕ = r .ran .cpu .pc in
-      (numberOf (r .ran .reply) ≡ 5)
-      ↔ (Ready s l
-      × ((r .ran .count < budget) × ((r .ran .cpu .stopped ≡ false) × (Inside m pc 2 × NotCarriedWord (numberAt m pc Word)))))
-  -- no word of line 8 is one of these, and none of line A: so no MAC, whatever its second word says
-  pub line-8-carried : (op : ℕ) → op / 0x1000 ≡ 8 → NotCarriedWord op → ⊥
-  pub line-a-carried : (op : ℕ) → op / 0x1000 ≡ 10 → NotCarriedWord op → ⊥
+  pub step-5 : (s : Cpu) (l : Lent) → numbered (step s l) ≡ 5 → ⊥
+  pub run-5 : (budget : ℕ) (s : Cpu) (l : Lent) → numberOf (run budget s l .ran .reply) ≡ 5 → ⊥
 
 pub record Reply6 : Type 0 where
   pub exception-6 : (s : Cpu) (l : Lent) (vector pc level : ℕ) → (numbered (exception s l vector pc (To level)) ≡ 6) ↔ (Ready s l × (8 ≤ level))
@@ -238,8 +221,8 @@ pub record Reply8And9 : Type 0 where
 
 -- a call gives no other reply than these, so 0 exactly where it gives none of the others
 pub record NoOthers : Type 0 where
-  pub step-of : (s : Cpu) (l : Lent) → OneOf (0 ∷ 1 ∷ 2 ∷ 3 ∷ 4 ∷ 5 ∷ []) (numbered (step s l))
-  pub run-of : (budget : ℕ) (s : Cpu) (l : Lent) → OneOf (0 ∷ 1 ∷ 2 ∷ 3 ∷ 4 ∷ 5 ∷ []) (numberOf (run budget s l .ran .reply))
+  pub step-of : (s : Cpu) (l : Lent) → OneOf (0 ∷ 1 ∷ 2 ∷ 3 ∷ 4 ∷ []) (numbered (step s l))
+  pub run-of : (budget : ℕ) (s : Cpu) (l : Lent) → OneOf (0 ∷ 1 ∷ 2 ∷ 3 ∷ 4 ∷ []) (numberOf (run budget s l .ran .reply))
   pub exception-of : (s : Cpu) (l : Lent) (vector pc : ℕ) (level : Level) → OneOf (0 ∷ 1 ∷ 2 ∷ 4 ∷ 6 ∷ []) (numbered (exception s l vector pc level))
   pub interrupt-of : (s : Cpu) (l : Lent) (vector level : ℕ) → OneOf (0 ∷ 1 ∷ 2 ∷ 4 ∷ 6 ∷ 7 ∷ []) (numbered (interrupt s l vector level))
   pub rte-of : (s : Cpu) (l : Lent) → OneOf (0 ∷ 1 ∷ 2 ∷ 4 ∷ []) (numbered (rte s l))

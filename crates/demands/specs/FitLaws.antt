@@ -31,7 +31,7 @@ use Rattle.manual.specs.declared.Operand.the-variants.{Data, Address, Indirect,
 use Rattle.manual.specs.declared.Quotient.{Quotient}
 use Rattle.manual.specs.declared.Reply.{Reply}
 use Rattle.manual.specs.declared.Action.{Action}
-use Rattle.manual.specs.declared.Action.the-variants.{Nothing, Store, StoreMany, LoadMany, Enter, Return, Status, Stop, PushStatus, Halt, SetOther, Accumulate, SetAcc, SetExt, SetMacsr, SetMask, CopyAcc, ClearAcc, Refuse}
+use Rattle.manual.specs.declared.Action.the-variants.{Nothing, Store, StoreMany, LoadMany, Enter, Return, Status, Stop, PushStatus, Halt, SetOther, Accumulate, SetAcc, SetExt, SetMacsr, SetMask, CopyAcc, ClearAcc, MoveControl, Refuse}
 use Rattle.manual.specs.declared.Change.{Change}
 use Rattle.manual.specs.Word.{bytes, numbers, cut, merged, signed, fits, modZ, signExtended}
 use Rattle.manual.specs.Bits.{logic, changedBit, reversedBytes}
@@ -43,7 +43,7 @@ use Rattle.manual.specs.Multiply.{longProduct, signedLongProduct, wordProduct, 
 use Rattle.manual.specs.Divide.{noQuotient, quotient, signedQuotient}
 use Rattle.manual.specs.Shift.{shiftedLeft, shiftedRight, signedShiftedRight}
 use Rattle.manual.specs.Emac.{valueOf, nearest, rounded, saturated, accOf, readAcc, readExt}
-use Rattle.manual.specs.Change.{done, store, acting, enterAfter, enter, illegal, privilege, refuse, refused, notCarried, jump, push, reading, reaching, locating, put}
+use Rattle.manual.specs.Change.{done, store, acting, enterAfter, enter, illegal, privilege, refuse, refused, jump, push, reading, reaching, locating, put}
 use Rattle.word.specs.BitLaws.{with-below}
 use Rattle.word.specs.WordLaws.{numbers-few, some-numbers, cut-below, plus-below, minus-below}
 use Rattle.memory.specs.MemoryLaws.{value-lt}
@@ -75,6 +75,7 @@ otherIn (SetMacsr v) = 0
 otherIn (SetMask v) = 0
 otherIn (CopyAcc from to) = 0
 otherIn (ClearAcc i) = 0
+otherIn (MoveControl writes c n) = 0
 otherIn (Refuse n) = 0
 
 -- the numbers that a change puts into the state are longs
@@ -272,10 +273,6 @@ refuse-fits n = record { pc-fits = omega arith; first-fits = no-write-long; seco
 pub refused-fits : (x : Fault) → FitsLong (refused x)
 unfolding refused
 refused-fits x = refuse-fits _
-
-pub not-carried-fits : FitsLong notCarried
-unfolding notCarried
-not-carried-fits = refuse-fits _
 
 pub jump-fits : (sr next : ℕ) → IsLong next → FitsLong (jump sr next)
 unfolding jump

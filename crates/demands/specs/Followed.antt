@@ -22,7 +22,7 @@ use Rattle.demands.specs.StepLaws as steps
 use Rattle.demands.specs.Accesses.{Inside, SomeOutside}
 use Rattle.demands.specs.Effects.{accesses}
 use Rattle.demands.specs.AccessLaws.{word-lt}
-use Rattle.demands.specs.Exact.{Bytes, Ready, NotCarriedWord}
+use Rattle.demands.specs.Exact.{Bytes, Ready}
 use Rattle.demands.specs.ExactLaws.{reply-0}
 
 -- the step from s and l, at the word op, followed the row r
@@ -74,9 +74,7 @@ follows s l all f =
 done-fetches : (s : Cpu) (l : Lent) → Bytes (l .storage) → step s l .stepped .reply ≡ Done → Fetches s l
 done-fetches s l all done =
     let m : Memory = memoryOf l in
-    let h : Ready s l × ((s .stopped ≡ false) × ((SomeOutside m (accesses s m) → ⊥) × (NotCarriedWord (numberAt m (s .pc) Word) → ⊥))) =
-    reply-0 .step-0 s l all .0 (ap numberOf done)
-    in
+    let h : Ready s l × ((s .stopped ≡ false) × (SomeOutside m (accesses s m) → ⊥)) = reply-0 .step-0 s l .0 (ap numberOf done) in
     record { ready = h .0; awake = h .1 .0; in-memory = steps.stepped s l done .fetch }
 
 pub steps-follow-rows : StepsFollowRows

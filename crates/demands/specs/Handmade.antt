@@ -1,6 +1,7 @@
--- The document's examples that were checked by hand, and line 8's, as one table with a single claim, by computation straight from the
--- definition of a step, of `exception` and of `rte`. Document: "Checked by hand", the examples marked *. It has none of line 8:
--- their answers were worked out by hand, N after an overflow and OR.B as docs/DIFFERENCES.md has them (33, 23). Assumes nothing.
+-- The document's examples that were checked by hand, and those of line 8, of word operands and of MOVEC, as one table with a single
+-- claim, by computation straight from the definition of a step, of `exception` and of `rte`. Document: "Checked by hand", the examples
+-- marked *. The answers of the others were worked out by hand, N after an overflow, OR.B, reads by MOVEC and numbers that name no control
+-- register as docs/DIFFERENCES.md has them (33, 23, 58, 60). Assumes nothing.
 use Prim.Native.Nat.{ℕ, _+_, _-_, _*_, _/_, _%_, _^_}
 use mathlib.Core.Path.{_≡_, refl}
 use mathlib.Core.Bool.{false, cond}
@@ -25,6 +26,7 @@ use Rattle.manual.specs.Admitted as admitted
 use Rattle.manual.specs.Lent as lents
 use Rattle.manual.specs.Lent.{Lent, lent, memoryOf}
 use Rattle.manual.specs.Change as change
+use Rattle.manual.specs.Control as control
 use Rattle.manual.specs.Exceptions as exceptions
 use Rattle.instructions.specs.Rows.{rowOf, placeIn}
 use Rattle.manual.specs.Block.{fresh}
@@ -112,6 +114,13 @@ enteredFrom words d0 =
     let o : Outcome = step (state (set (d0 ∷ zeros 15) 15 0x20) 0x2700 0 (zeros 4)) (lent (bytesOf words ++ zeros 0x20)) in
     numberOf (o .stepped .reply) ∷ o .stepped .vector ∷ memory.valueAt (o .storage) 0x1C 4 ∷ getD (o .stepped .cpu .r) 0 0 ∷ []
 
+-- the reply's number, VBR, CACR, D1 and A7 after one step of a program, from D0, D1 being 1, A7 0x40, VBR 0x00300003 and CACR 0x20
+abbrev controlled : List ℕ → ℕ → List ℕ
+controlled words d0 =
+    let s : Cpu = registers.withControls 0x0030_0003 0x20 (state (set (d0 ∷ 1 ∷ zeros 14) 15 0x40) 0x2700 0 (zeros 4)) in
+    let t : Cpu = step s (program words) .stepped .cpu in
+    numberOf (step s (program words) .stepped .reply) ∷ t .vbr ∷ t .cacr ∷ getD (t .r) 1 0 ∷ getD (t .r) 15 0 ∷ []
+
 -- an entry with A7, and then the return: A7, the frame's two longs, A7 and the program counter
 abbrev undone : ℕ → ℕ → ℕ → ℕ → List ℕ
 undone a7 sr vector pc =
@@ -175,6 +184,15 @@ examples =
     ∷ (accumulated (0xA00C ∷ 0x0080 ∷ []) 0xFFFF_0001 0x0001_0003 0x40 0 is 0 ∷ 0x2_FFFD ∷ 0 ∷ [])
     ∷ (accumulated (0xA00C ∷ 0x0080 ∷ []) 0xFFFF_0001 0x0001_0003 0x20 0 is 0 ∷ (2 ^ 48 - 3 * 2 ^ 9) ∷ 0 ∷ [])
     ∷ (accumulated (0xA000 ∷ 0x0000 ∷ []) 0x7FFF_8000 0 0x20 0 is 0 ∷ (2 ^ 39) ∷ 0 ∷ [])
+    -- MOVEC D0,VBR keeps bits 31 to 20. MOVEC D0,CACR keeps all 32, and A7 stays where bit 5 goes
+    ∷ (controlled (0x4E7B ∷ 0x0801 ∷ []) 0x1234_5678 is 0 ∷ 0x1230_0000 ∷ 0x20 ∷ 1 ∷ 0x40 ∷ [])
+    ∷ (controlled (0x4E7B ∷ 0x0002 ∷ []) 0x1234_5618 is 0 ∷ 0x0030_0003 ∷ 0x1234_5618 ∷ 1 ∷ 0x40 ∷ [])
+    -- MOVEC VBR,D1 reads the low bits that a block can bring. MOVEC CACR,A7: bit 15 of the second word is A's
+    ∷ (controlled (0x4E7A ∷ 0x1801 ∷ []) 0 is 0 ∷ 0x0030_0003 ∷ 0x20 ∷ 0x0030_0003 ∷ 0x40 ∷ [])
+    ∷ (controlled (0x4E7A ∷ 0xF002 ∷ []) 0 is 0 ∷ 0x0030_0003 ∷ 0x20 ∷ 1 ∷ 0x20 ∷ [])
+    -- MOVEC D0 to 0x800 and from 0x802 enters vector 4 with the word's program counter
+    ∷ (enteredFrom (0x4E7B ∷ 0x0800 ∷ []) 7 is 0 ∷ 4 ∷ 0 ∷ 7 ∷ [])
+    ∷ (enteredFrom (0x4E7A ∷ 0x0802 ∷ []) 7 is 0 ∷ 4 ∷ 0 ∷ 7 ∷ [])
     -- A7 0x103, SR 0x2700, vector 32: frame at 0xF8, first long 0x70802700, A7 0xF8; return gives 0x103
     ∷ (undone 0x103 0x2700 32 0x1234 is 0xF8 ∷ 0x7080_2700 ∷ 0x1234 ∷ 0x103 ∷ 0x1234 ∷ [])
     -- 49C3 is EXTB: D3's low byte is extended. 49D3 is LEA: A4 gets A3
@@ -191,5 +209,5 @@ examples =
     ∷ [])
 
 pub checked-by-hand : map (λ x. x .given) examples ≡ map (λ x. x .said) examples
-unfolding examples step execute bits.withBit instruction perform rowOf placeIn admitted.admitted admitted.status admitted.emacAdmitted memory.load memory.valueAt memory.storeAt memory.storing memory.stored word.cut word.merged word.plus word.minus word.sizeOf word.signedAt word.signExtended registers.dataOf registers.addressOf registers.general registers.noWrite registers.writeData registers.writeAddress registers.written registers.withParts registers.withAddress registers.withPc registers.withSr registers.withStopped registers.withEmac registers.coded registers.applied address.operand address.extension address.source address.value address.fetch address.locate address.immediate address.moved address.control address.destinationOf change.done change.acting change.enterAfter change.store change.put change.putTo flags.codes flags.keptCodes flags.moveCodes flags.added flags.subtracted flags.sumOrDifference flags.sumCodes l9.sums l9.addToData le.lineE le.shift le.shifted le.shiftCount shift.shiftedLeft shift.signedShiftedRight shift.shiftCodes l4.line4 l4.divL l4.divided l4.extb l4.lea l4.halt l4.tas l8.line8 l8.divW l8.wordDivided lc.logicToData bits.logic divide.quotient divide.signedQuotient divide.wordQuotient divide.signedWordQuotient divide.overflowCodes l0.line0 l0.ff1 leadingZeros la.lineA la.mac la.macRegisters la.operand la.moveToEmac la.setting la.moveAccToAcc emac.modeOf emac.wordOperand emac.accOf emac.withAcc emac.withSum emac.accumulate emac.setAcc emac.copyAcc exceptions.setSr exceptions.handlerSr exceptions.frameLong exceptions.handlerState exceptions.entered exceptions.returnState exceptions.returned exceptions.exception exceptions.rte fresh lents.lentRefusal lents.stateRefusal lents.firstRefusal memory.access
+unfolding examples step execute bits.withBit instruction perform rowOf placeIn admitted.admitted admitted.status admitted.emacAdmitted memory.load memory.valueAt memory.storeAt memory.storing memory.stored word.cut word.merged word.plus word.minus word.sizeOf word.signedAt word.signExtended registers.dataOf registers.addressOf registers.general registers.noWrite registers.writeData registers.writeAddress registers.writeGeneral registers.written registers.withParts registers.withAddress registers.withPc registers.withSr registers.withRegisters registers.withVbr registers.withCacr registers.withStopped registers.withEmac registers.coded registers.applied address.operand address.extension address.source address.value address.fetch address.locate address.immediate address.moved address.control address.destinationOf change.done change.acting change.enterAfter change.enter change.illegal change.store change.put change.putTo flags.codes flags.keptCodes flags.moveCodes flags.added flags.subtracted flags.sumOrDifference flags.sumCodes l9.sums l9.addToData le.lineE le.shift le.shifted le.shiftCount shift.shiftedLeft shift.signedShiftedRight shift.shiftCodes l4.line4 l4.divL l4.divided l4.extb l4.lea l4.halt l4.tas l4.movec control.controlRegister control.movecRead control.movecWrite control.controlMoved l8.line8 l8.divW l8.wordDivided lc.logicToData bits.logic divide.quotient divide.signedQuotient divide.wordQuotient divide.signedWordQuotient divide.overflowCodes l0.line0 l0.ff1 leadingZeros la.lineA la.mac la.macRegisters la.operand la.moveToEmac la.setting la.moveAccToAcc emac.modeOf emac.wordOperand emac.accOf emac.withAcc emac.withSum emac.accumulate emac.setAcc emac.copyAcc exceptions.setSr exceptions.handlerSr exceptions.frameLong exceptions.handlerState exceptions.entered exceptions.returnState exceptions.returned exceptions.exception exceptions.rte fresh lents.lentRefusal lents.stateRefusal lents.firstRefusal memory.access
 checked-by-hand = refl

@@ -10,7 +10,7 @@ use mathlib.Core.Bool.{Bool, true, false, cond, _&&_, false≢true}
 use mathlib.Core.List.{List, [], _∷_}
 use mathlib.Core.Logic.{_↔_, _⊎_, ⊎-elim, inl, inr}
 use native.Mathlib.Omega.{arith}
-use lib.Dec.{eqb, leb, ltb}
+use lib.Dec.{eqb, ltb}
 use lib.ListN.{length}
 use borrow.Author.Tests.{eq-eqb}
 use Rattle.manual.specs.declared.Cpu.{Cpu}
@@ -19,8 +19,7 @@ use Rattle.manual.specs.declared.Reply.{Reply}
 use Rattle.manual.specs.declared.Reply.the-variants.{Done, TooLong as Long, NotAdmitted, Stopped, NotInside, NotCarried, OutOfRange, Masked, WrongVersion, WrongLength}
 use Rattle.manual.specs.declared.Answer.{Answer}
 use Rattle.manual.specs.Reply.{numberOf, isDone, Outcome}
-use Rattle.manual.specs.declared.Size.the-variants.{Word}
-use Rattle.manual.specs.Memory.{Storage, Memory, valueAt, numberAt}
+use Rattle.manual.specs.Memory.{Storage, Memory, valueAt}
 use Rattle.manual.specs.Admitted.{admitted}
 use Rattle.manual.specs.Lent.{Lent, memoryOf, lentRefusal, orElse}
 use Rattle.manual.specs.Exceptions.{exception, interrupt, rte}
@@ -34,8 +33,8 @@ use Rattle.demands.specs.Steps.{Steps, none, one-more}
 use Rattle.demands.specs.Runs.{runs}
 use Rattle.demands.specs.Admits.{admits}
 use Rattle.demands.specs.ReplyLaws as laws
-use Rattle.demands.specs.Exact.{OneOf, TooLong, Usable, Ready, Bytes, NotCarriedWord, BlockForm, OutOfRanges, last-above, numbered}
-use Rattle.demands.specs.Accesses.{Inside, SomeOutside}
+use Rattle.demands.specs.Exact.{OneOf, TooLong, Usable, Ready, BlockForm, OutOfRanges, last-above, numbered}
+use Rattle.demands.specs.Accesses.{SomeOutside}
 use Rattle.demands.specs.Effects.{accesses}
 use Rattle.demands.specs.BlockRanges.{of-block, in-ranges}
 use Rattle.demands.specs.FirstReplies.{lent-1, lent-2, lent-of}
@@ -64,18 +63,12 @@ pub record StepTable (b : List ℕ) (l : Lent) : Type 0 where
   -- some access of the step of the state that the block says is not inside
   pub gives-4 : let m : Memory = memoryOf l in
       (replyIn (stepOn b l) ≡ 4) ↔ (Begins b l × ((valueAt b 127 1 ≡ 0) × SomeOutside m (accesses (stateAt b) m)))
-  -- the word at its program counter is not carried
-  pub gives-5 : Bytes (l .storage)
-      → let m : Memory = memoryOf l in
-      let pc : ℕ = stateAt b .pc in
-      (replyIn (stepOn b l) ≡ 5) ↔ (Begins b l × ((valueAt b 127 1 ≡ 0) × (Inside m pc 2 × NotCarriedWord (numberAt m pc Word))))
+  -- no word brings it
+  pub gives-5 : replyIn (stepOn b l) ≡ 5 → ⊥
   -- none of these
-  pub gives-0 : Bytes (l .storage)
-      → let m : Memory = memoryOf l in
-      let pc : ℕ = stateAt b .pc in
-      (replyIn (stepOn b l) ≡ 0)
-      ↔ (Begins b l × ((valueAt b 127 1 ≡ 0) × ((SomeOutside m (accesses (stateAt b) m) → ⊥) × (NotCarriedWord (numberAt m pc Word) → ⊥))))
-  pub no-other : OneOf (0 ∷ 1 ∷ 2 ∷ 3 ∷ 4 ∷ 5 ∷ 8 ∷ 9 ∷ []) (replyIn (stepOn b l))
+  pub gives-0 : let m : Memory = memoryOf l in
+      (replyIn (stepOn b l) ≡ 0) ↔ (Begins b l × ((valueAt b 127 1 ≡ 0) × (SomeOutside m (accesses (stateAt b) m) → ⊥)))
+  pub no-other : OneOf (0 ∷ 1 ∷ 2 ∷ 3 ∷ 4 ∷ 8 ∷ 9 ∷ []) (replyIn (stepOn b l))
 
 -- when a call on a block gives which reply; `read` is the reply to the block's own read, `inner` that of the call on its state
 pub record OnBlock (read : ℕ) (l : Lent) (reply inner : ℕ) : Type 0 where
@@ -232,29 +225,20 @@ module _ (b : List ℕ) where
   never-2 : {X Y : Type 0} → (X ↔ (Y × (admitted (read .cpu) ≡ false))) → X → ⊥
   never-2 e x = false≢true (sym (e .0 x .1) ∙ admits .by-read-block b)
 
--- each number of a list is at most k, so one of them is
-abbrev allTo : ℕ → List ℕ → Bool
-allTo k [] = true
-allTo k (x ∷ l) = leb x k && allTo k l
-
-at-most : (k n : ℕ) (l : List ℕ) → allTo k l ≡ true → OneOf l n → n ≤ k
-at-most k n (x ∷ l) a (inl e) = omega (arith, laws.iff-le x k .0 (laws.iff-both (leb x k) (allTo k l) .0 a .0))
-at-most k n (x ∷ l) a (inr h) = at-most k n l (laws.iff-both (leb x k) (allTo k l) .0 a .1) h
-
 module _ (b : List ℕ) (l : Lent) where
   -- a call that answers with an outcome
-  replies : (w : ℕ) (low : (n v : ℕ) → n ≤ 9 → (n + w * v) % 256 ≡ n) (alone : (n : ℕ) → n ≤ 9 → n + w * 0 < 256) (o : Outcome) (ks : List ℕ) → allTo 7 ks ≡ true → OneOf ks (numbered o)
+  replies : (w : ℕ) (low : (n v : ℕ) → n ≤ 9 → (n + w * v) % 256 ≡ n) (alone : (n : ℕ) → n ≤ 9 → n + w * 0 < 256) (o : Outcome) (ks : List ℕ) → laws.allTo 7 ks ≡ true → OneOf ks (numbered o)
       → ((numbered o ≡ 1) ↔ TooLong l) → ((numbered o ≡ 2) ↔ (Usable l × (admitted (readBlock b .cpu) ≡ false)))
       → OnBlock (numberOf (readBlock b .reply)) l (replyIn (onBlock w (readBlock b) o b l)) (numbered o)
   replies w low alone o ks a of one two =
       rw (block-number w low alone o b l (readBlock b))
-      (on-block l (numbered o) (at-most 7 (numbered o) ks a of) one (readBlock b .reply) (exact.no-others .read-block-of b) (never-2 b two))
+      (on-block l (numbered o) (laws.at-most 7 (numbered o) ks a of) one (readBlock b .reply) (exact.no-others .read-block-of b) (never-2 b two))
 
   step-replies : OnBlock (numberOf (readBlock b .reply)) l (replyIn (stepOn b l)) (numbered (step (readBlock b .cpu) l))
   unfolding stepOn
   step-replies =
       let s : Cpu = readBlock b .cpu in
-      replies 256 low-256 alone-256 (step s l) (0 ∷ 1 ∷ 2 ∷ 3 ∷ 4 ∷ 5 ∷ []) refl (exact.no-others .step-of s l)
+      replies 256 low-256 alone-256 (step s l) (0 ∷ 1 ∷ 2 ∷ 3 ∷ 4 ∷ []) refl (exact.no-others .step-of s l)
       (exact.reply-1 .step-1 s l) (exact.reply-2 .step-2 s l)
 
   exception-replies : (vector pc : ℕ) (level : Level)
@@ -300,7 +284,7 @@ module _ (b : List ℕ) (l : Lent) where
         let s : Cpu = readBlock b .cpu in
         let n : ℕ = numberOf (ran .ran .reply) in
         rw run-number
-        (on-block l n (at-most 7 n (0 ∷ 1 ∷ 2 ∷ 3 ∷ 4 ∷ 5 ∷ []) refl (exact.no-others .run-of budget s l))
+        (on-block l n (laws.at-most 7 n (0 ∷ 1 ∷ 2 ∷ 3 ∷ 4 ∷ []) refl (exact.no-others .run-of budget s l))
         (exact.reply-1 .run-1 budget s l) (readBlock b .reply) (exact.no-others .read-block-of b) (never-2 b (exact.reply-2 .run-2 budget s l)))
 
     no-steps : {n : ℕ} {s s′ : Cpu} {l l′ : Lent} → Steps n s l s′ l′ → n ≡ 0 → l′ ≡ l
@@ -405,19 +389,18 @@ module _ (b : List ℕ) where
 
     -- every block and every step has its row
     has-row : (n : ℕ) → OnBlock replied l n (numbered (step (readBlock b .cpu) l)) → OneOf (0 ∷ 2 ∷ 8 ∷ 9 ∷ []) replied
-        → OneOf (0 ∷ 1 ∷ 2 ∷ 3 ∷ 4 ∷ 5 ∷ []) (numbered (step (readBlock b .cpu) l)) → OneOf (0 ∷ 1 ∷ 2 ∷ 3 ∷ 4 ∷ 5 ∷ 8 ∷ 9 ∷ []) n
+        → OneOf (0 ∷ 1 ∷ 2 ∷ 3 ∷ 4 ∷ []) (numbered (step (readBlock b .cpu) l)) → OneOf (0 ∷ 1 ∷ 2 ∷ 3 ∷ 4 ∷ 8 ∷ 9 ∷ []) n
     has-row n on (inl r) (inl e) = inl (on .gives 0 (inl refl) .1 (r, e))
     has-row n on (inl r) (inr (inl e)) = inr (inl (on .gives-1 .1 (inl r, exact.reply-1 .step-1 (readBlock b .cpu) l .0 e)))
     has-row n on (inl r) (inr (inr (inl e))) = absurd (never-2 b (exact.reply-2 .step-2 (readBlock b .cpu) l) e)
     has-row n on (inl r) (inr (inr (inr (inl e)))) = inr (inr (inr (inl (on .gives 3 (inr (omega arith, omega arith)) .1 (r, e)))))
     has-row n on (inl r) (inr (inr (inr (inr (inl e))))) = inr (inr (inr (inr (inl (on .gives 4 (inr (omega arith, omega arith)) .1 (r, e))))))
-    has-row n on (inl r) (inr (inr (inr (inr (inr (inl e)))))) = inr (inr (inr (inr (inr (inl (on .gives 5 (inr (omega arith, omega arith)) .1 (r, e)))))))
     has-row n on (inr (inl r)) w =
         by-lt 0x100_0000 (length (l .storage))
         (λ o. inr (inl (on .gives-1 .1 (inr r, o))))
         (λ o. inr (inr (inl (on .gives-2 .1 (r, exact.meanings .usable l .1 (λ x. omega arith))))))
-    has-row n on (inr (inr (inl r))) w = inr (inr (inr (inr (inr (inr (inl (on .gives-8 .1 r)))))))
-    has-row n on (inr (inr (inr (inl r)))) w = inr (inr (inr (inr (inr (inr (inr (inl (on .gives-9 .1 r))))))))
+    has-row n on (inr (inr (inl r))) w = inr (inr (inr (inr (inr (inl (on .gives-8 .1 r))))))
+    has-row n on (inr (inr (inr (inl r)))) w = inr (inr (inr (inr (inr (inr (inl (on .gives-9 .1 r)))))))
 
     pub step-table : StepTable b l
     step-table =
@@ -434,10 +417,8 @@ module _ (b : List ℕ) where
               (laws.iff-trans (begins (λ s. s .stopped ≡ true)) (laws.iff-and laws.iff-same stopped-is)));
           gives-4 = laws.iff-trans (on .gives 4 (inr (omega arith, omega arith)))
               (laws.iff-trans (laws.iff-and laws.iff-same (exact.reply-4 .step-4 s l)) (goes-on (λ s. SomeOutside m (accesses s m))));
-          gives-5 = λ bytes. laws.iff-trans (on .gives 5 (inr (omega arith, omega arith)))
-              (laws.iff-trans (laws.iff-and laws.iff-same (exact.reply-5 .step-5 s l bytes)) (goes-on (λ s. Inside m (s .pc) 2 × NotCarriedWord (numberAt m (s .pc) Word))));
-          gives-0 = λ bytes. laws.iff-trans (on .gives 0 (inl refl))
-              (laws.iff-trans (laws.iff-and laws.iff-same (exact.reply-0 .step-0 s l bytes))
-              (goes-on (λ s. (SomeOutside m (accesses s m) → ⊥) × (NotCarriedWord (numberAt m (s .pc) Word) → ⊥))));
+          gives-5 = λ e. exact.reply-5 .step-5 s l (on .gives 5 (inr (omega arith, omega arith)) .0 e .1);
+          gives-0 = laws.iff-trans (on .gives 0 (inl refl))
+              (laws.iff-trans (laws.iff-and laws.iff-same (exact.reply-0 .step-0 s l)) (goes-on (λ s. SomeOutside m (accesses s m) → ⊥)));
           no-other = has-row (replyIn (stepOn b l)) on (exact.no-others .read-block-of b) (exact.no-others .step-of s l);
         }

@@ -22,7 +22,9 @@ pub mod StepReplies
 pub mod Writes
 pub mod Undone
 pub mod Nesting
+pub mod ControlRegisters
 pub mod NestingExample
+pub mod ControlExample
 pub mod EntryReplies
 pub mod BlockRanges
 pub mod CallReplies

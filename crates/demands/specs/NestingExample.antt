@@ -46,7 +46,7 @@ use Rattle.demands.specs.Undone.{Enters, by-interrupt, every-entry, Retu
 use Rattle.demands.specs.Nesting.{Pending, pending, leftBy, SameFrames, TouchesNone, Reached, start, entry, work, return, entries-nest}
 
 -- longs, the high byte of each first
-abbrev longs : List ℕ → Storage
+abbrev pub longs : List ℕ → Storage
 longs [] = []
 longs (x ∷ xs) = (x / 0x100_0000 % 256) ∷ (x / 0x1_0000 % 256) ∷ (x / 0x100 % 256) ∷ (x % 256) ∷ longs xs
 
@@ -207,7 +207,7 @@ zeros zero j k h = h
 zeros (suc n) zero k h = h
 zeros (suc n) (suc j) k h = zeros n j k h
 
-typed-state : (d0 d1 a7 other pc sr : ℕ) → d0 + d1 + a7 + other + pc + sr < 2 ^ 16 → Typed (state d0 d1 a7 other pc sr)
+pub typed-state : (d0 d1 a7 other pc sr : ℕ) → d0 + d1 + a7 + other + pc + sr < 2 ^ 16 → Typed (state d0 d1 a7 other pc sr)
 unfolding state
 typed-state d0 d1 a7 other pc sr h = record {
   sixteen = refl;
@@ -223,7 +223,7 @@ typed-state d0 d1 a7 other pc sr h = record {
   four = refl;
 }
 
-bytes-longs : (xs : List ℕ) → Bytes (longs xs)
+pub bytes-longs : (xs : List ℕ) → Bytes (longs xs)
 bytes-longs [] j = omega arith
 bytes-longs (x ∷ xs) zero = omega arith
 bytes-longs (x ∷ xs) (suc zero) = omega arith
@@ -235,7 +235,7 @@ bytes-memory : (stack : List ℕ) → Bytes (memory stack .storage)
 unfolding memory
 bytes-memory stack = bytes-longs (contents stack)
 
-admitted-state : (d0 d1 a7 other pc sr : ℕ) → admits.status sr ≡ sr → admitted (state d0 d1 a7 other pc sr) ≡ true
+pub admitted-state : (d0 d1 a7 other pc sr : ℕ) → admits.status sr ≡ sr → admitted (state d0 d1 a7 other pc sr) ≡ true
 unfolding state admits.emacAdmitted emac.accOf
 admitted-state d0 d1 a7 other pc sr h = admitted-of _ h refl
 

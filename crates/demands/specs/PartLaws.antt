@@ -1,12 +1,11 @@
 -- Which accesses the parts of an instruction make, and what they do then: at the first fault of the accesses an instruction is refused,
 -- and where there is none it has its effect. Assumes nothing.
-use Prim.Native.Nat.{ℕ, zero, suc, _+_, _/_, _%_}
+use Prim.Native.Nat.{ℕ, zero, suc, _/_, _%_}
 use mathlib.Core.Path.{_≡_, refl, sym, _∙_}
 use mathlib.Core.Bool.{Bool, true, false, cond}
 use mathlib.Core.List.{List, [], _∷_, _++_}
-use mathlib.Core.Logic.{_↔_, _⊎_, ⊎-elim, inl, inr}
+use mathlib.Core.Logic.{_↔_}
 use native.Mathlib.Omega.{arith}
-use native.Mathlib.Nat.{add-zero, add-suc, suc-add}
 use lib.ListN.{getD}
 use Rattle.manual.specs.declared.Size.{Size}
 use Rattle.manual.specs.declared.Size.the-variants.{Byte, Word, Long}
@@ -27,7 +26,7 @@ use Rattle.manual.specs.declared.Destination.{Destination}
 use Rattle.manual.specs.declared.Operand.{Operand}
 use Rattle.manual.specs.declared.Operand.the-variants.{Data, Address, Indirect, PostIncrement, PreDecrement, Displaced, Indexed, AbsoluteWord, AbsoluteLong, PcDisplaced, PcIndexed, Immediate, Zero}
 use Rattle.manual.specs.declared.Action.{Action}
-use Rattle.manual.specs.declared.Action.the-variants.{Nothing, Store, StoreMany, LoadMany, Enter, Return, Status, Stop, PushStatus, Halt, SetOther, Accumulate, SetAcc, SetExt, SetMacsr, SetMask, CopyAcc, ClearAcc, Refuse}
+use Rattle.manual.specs.declared.Action.the-variants.{Nothing, Store, StoreMany, LoadMany, Enter, Return, Status, Stop, PushStatus, Halt, SetOther, Accumulate, SetAcc, SetExt, SetMacsr, SetMask, CopyAcc, ClearAcc, MoveControl, Refuse}
 use Rattle.manual.specs.declared.Change.{Change}
 use Rattle.manual.specs.Word.{bytes}
 use Rattle.manual.specs.Memory.{Memory, storageOf, access, taken, firstFault, found, load, numberIn, numberAt}
@@ -59,6 +58,7 @@ quiet (SetMacsr v) = true
 quiet (SetMask v) = true
 quiet (CopyAcc from to) = true
 quiet (ClearAcc i) = true
+quiet (MoveControl writes c n) = true
 quiet (Refuse n) = false
 
 -- the change c of a word at `at` has the effect, sr being the status register
@@ -363,27 +363,16 @@ module _ (at sr : ℕ) (m : Memory) where
   reaching-made l e (At (NoValue x)) f p h = rw (← p)
   reaching-made l e NoAddress f p h = rw (← p) (illegal-does at sr)
 
-  -- ---- the rows of a line, k being the number of the first: each makes its accesses and has its effect, or is one that P excuses
+  -- ---- the rows of a line: each makes its accesses and has its effect
 
-  pub data Listed (P : ℕ → Type 0) : ℕ → List (List Wanted) → List Effect → List Change → Type 0 where
-    end : {k : ℕ} → Listed P k [] [] []
-    row : {k : ℕ} {ls : List (List Wanted)} {es : List Effect} {cs : List Change} (l : List Wanted) (e : Effect) (c : Change) → Makes l e c → Listed P (suc k) ls es cs
-        → Listed P k (l ∷ ls) (e ∷ es) (c ∷ cs)
-    out : {k : ℕ} {ls : List (List Wanted)} {es : List Effect} {cs : List Change} (l : List Wanted) (e : Effect) (c : Change) → P k → Listed P (suc k) ls es cs
-        → Listed P k (l ∷ ls) (e ∷ es) (c ∷ cs)
-
-  pub listed : {P : ℕ → Type 0} {k : ℕ} {ls : List (List Wanted)} {es : List Effect} {cs : List Change} → Listed P k ls es cs
-      → (i : ℕ) (l : List Wanted) (e : Effect) (c : Change) → Makes l e c → P (k + i) ⊎ Makes (getD ls i l) (getD es i e) (getD cs i c)
-  listed end i l e c h = inr h
-  listed (row l′ e′ c′ f r) zero l e c h = inr f
-  listed {k = k} (row l′ e′ c′ f r) (suc i) l e c h = rw (add-suc k i, ← suc-add k i) (listed r i l e c h)
-  listed (out l′ e′ c′ p r) zero l e c h = inl (rw add-zero p)
-  listed {k = k} (out l′ e′ c′ p r) (suc i) l e c h = rw (add-suc k i, ← suc-add k i) (listed r i l e c h)
-
-  abbrev pub None : ℕ → Type 0
-  None n = ⊥
+  pub data Listed : List (List Wanted) → List Effect → List Change → Type 0 where
+    end : Listed [] [] []
+    row : {ls : List (List Wanted)} {es : List Effect} {cs : List Change} (l : List Wanted) (e : Effect) (c : Change) → Makes l e c → Listed ls es cs
+        → Listed (l ∷ ls) (e ∷ es) (c ∷ cs)
 
   -- a number that is none of the line's rows is illegal
-  pub all-made : {ls : List (List Wanted)} {es : List Effect} {cs : List Change} → Listed None 0 ls es cs
+  pub all-made : {ls : List (List Wanted)} {es : List Effect} {cs : List Change} → Listed ls es cs
       → (i : ℕ) → Makes (getD ls i []) (getD es i (illegalWord at)) (getD cs i (illegal at sr))
-  all-made h i = ⊎-elim (λ x. absurd x) (λ f. f) (listed h i [] (illegalWord at) (illegal at sr) (illegal-does at sr))
+  all-made end i = illegal-does at sr
+  all-made (row l e c f r) zero = f
+  all-made (row l e c f r) (suc i) = all-made r i

@@ -22,7 +22,7 @@ use Rattle.manual.specs.declared.Answer.{Answer}
 use Rattle.manual.specs.declared.Told.{Told}
 use Rattle.manual.specs.declared.Popped.{Popped}
 use Rattle.manual.specs.declared.Action.{Action}
-use Rattle.manual.specs.declared.Action.the-variants.{Nothing, Store, StoreMany, LoadMany, Enter, Return, Status, Stop, PushStatus, Halt, SetOther, Accumulate, SetAcc, SetExt, SetMacsr, SetMask, CopyAcc, ClearAcc, Refuse}
+use Rattle.manual.specs.declared.Action.the-variants.{Nothing, Store, StoreMany, LoadMany, Enter, Return, Status, Stop, PushStatus, Halt, SetOther, Accumulate, SetAcc, SetExt, SetMacsr, SetMask, CopyAcc, ClearAcc, MoveControl, Refuse}
 use Rattle.manual.specs.declared.Change.{Change}
 use Rattle.manual.specs.Word.{plus, minus}
 use Rattle.manual.specs.Registers.{addressOf, applied}
@@ -167,6 +167,7 @@ module _ (given : Cpu) (m : Memory) where
   act-kept s (SetMask v) = done-kept _ 0 _
   act-kept s (CopyAcc from to) = done-kept _ 0 _
   act-kept s (ClearAcc i) = done-kept _ 0 _
+  act-kept s (MoveControl writes c n) = done-kept _ 0 _
   act-kept s (Refuse n) = same-kept n
 
   pub perform-kept : (c : Change) → Kept (perform given c m)

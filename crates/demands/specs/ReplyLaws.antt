@@ -23,9 +23,7 @@ use Rattle.manual.specs.Reply.{numberOf, Outcome, unchanged, refusal, accessing
 use Rattle.manual.specs.Admitted.{admitted}
 use Rattle.manual.specs.Lent.{Lent, memoryOf, firstRefusal, checked}
 use Rattle.manual.specs.Differences.{vectorPlace}
-use Rattle.manual.specs.Change.{notCarried, refuse}
 use Rattle.manual.specs.Exceptions.{setSr, handlerSr, pcPlace, framePlace, entered, returned}
-use Rattle.instructions.specs.Perform.{perform}
 use Rattle.demands.specs.Accesses.{Wanted, wanted, Inside, Outside, SomeOutside, this, another, entryAt, returnAt, manyLongs}
 use Rattle.demands.specs.AccessLaws.{taken-or-not}
 use Rattle.demands.specs.FirstReplies.{first-1, first-2, first-of}
@@ -265,6 +263,11 @@ module _ (given s : Cpu) (m : Memory) where
   pub many-answers : (regs a : ℕ) (o : Outcome) → numbered o ≡ 0 → Answers m (manyLongs 16 regs a) (taking given m (accessMany 16 m regs a) o)
   many-answers regs a o h = number-taking given m (accessMany 16 m regs a) o h ∙ ap (λ (x : Stored). numberOr x 0) (many-all 16 regs a)
 
-pub perform-5 : (s : Cpu) (m : Memory) → numbered (perform s notCarried m) ≡ 5
-unfolding perform notCarried refuse refusal
-perform-5 s m = refl
+-- each number of a list is at most k, so one of them is
+abbrev pub allTo : ℕ → List ℕ → Bool
+allTo k [] = true
+allTo k (x ∷ l) = leb x k && allTo k l
+
+pub at-most : (k n : ℕ) (l : List ℕ) → allTo k l ≡ true → OneOf l n → n ≤ k
+at-most k n (x ∷ l) a (inl e) = omega (arith, iff-le x k .0 (iff-both (leb x k) (allTo k l) .0 a .0))
+at-most k n (x ∷ l) a (inr h) = at-most k n l (iff-both (leb x k) (allTo k l) .0 a .1) h

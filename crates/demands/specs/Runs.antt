@@ -21,7 +21,7 @@ use Rattle.manual.specs.declared.Access.the-variants.{Here, Not}
 use Rattle.manual.specs.declared.Level.{Level}
 use Rattle.manual.specs.declared.Level.the-variants.{Kept}
 use Rattle.manual.specs.declared.Action.{Action}
-use Rattle.manual.specs.declared.Action.the-variants.{Nothing, Store, StoreMany, LoadMany, Enter, Return, Status, Stop, PushStatus, Halt, SetOther, Accumulate, SetAcc, SetExt, SetMacsr, SetMask, CopyAcc, ClearAcc, Refuse}
+use Rattle.manual.specs.declared.Action.the-variants.{Nothing, Store, StoreMany, LoadMany, Enter, Return, Status, Stop, PushStatus, Halt, SetOther, Accumulate, SetAcc, SetExt, SetMacsr, SetMask, CopyAcc, ClearAcc, MoveControl, Refuse}
 use Rattle.manual.specs.declared.Change.{Change}
 use Rattle.manual.specs.Word.{bytes, plus, minus}
 use Rattle.manual.specs.Registers.{addressOf, general, applied}
@@ -157,6 +157,7 @@ module _ (K : Storage → Type 0) (keeps : (b : Storage) (a n v : ℕ) → K b �
     act-kept s (SetMask v) = h
     act-kept s (CopyAcc from to) = h
     act-kept s (ClearAcc i) = h
+    act-kept s (MoveControl writes c n) = h
     act-kept s (Refuse n) = h
 
   pub step-storage : (s : Cpu) (l : Lent) → K (l .storage) → Keeps (step s l)

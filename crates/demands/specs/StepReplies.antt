@@ -3,13 +3,12 @@ use Prim.Native.Nat.{ℕ, _+_, _/_, _%_, _<_}
 use mathlib.Core.Path.{_≡_, refl, sym, ap, _∙_}
 use mathlib.Core.Bool.{Bool, true, false, cond}
 use mathlib.Core.List.{List, [], _∷_, _++_}
-use mathlib.Core.Logic.{_↔_, _⊎_, ⊎-elim, inl, inr}
+use mathlib.Core.Logic.{_↔_, ⊎-elim, inl, inr}
 use native.Mathlib.Omega.{arith}
 use lib.Dec.{T, eqb, eqb→eq}
 use Rattle.manual.specs.declared.Cpu.{Cpu}
 use Rattle.manual.specs.declared.Size.the-variants.{Word}
 use Rattle.manual.specs.declared.Fault.{Fault}
-use Rattle.manual.specs.declared.Fault.the-variants.{Outside as Out}
 use Rattle.manual.specs.declared.Access.{Access}
 use Rattle.manual.specs.declared.Access.the-variants.{Here, Not}
 use Rattle.manual.specs.declared.Stored.{Stored}
@@ -31,34 +30,17 @@ use Rattle.demands.specs.Runs.{runs}
 use Rattle.demands.specs.Admits.{admits}
 use Rattle.demands.specs.Accesses.{SomeOutside, reads0, reads4, reads, Wanted, wanted, Inside}
 use Rattle.demands.specs.Effects.{Effect, effects0, effects4, effect, effectOf, putsOf, readsOf, places, accesses, vectorOf}
-use Rattle.demands.specs.PartLaws.{Follows, Made, accessAll, numberOr, some-outside, past-inside, both, all-both}
+use Rattle.demands.specs.PartLaws.{Follows, accessAll, numberOr, some-outside, past-inside, both, all-both}
 use Rattle.demands.specs.EffectLaws.{Performs, performs}
-use Rattle.demands.specs.BodyLaws.{movecRead, movecWrite}
-use Rattle.demands.specs.AccessLaws.{word-lt, fault-number}
+use Rattle.demands.specs.AccessLaws.{fault-number}
 use Rattle.demands.specs.FirstReplies.{first-1, first-2, first-of}
-use Rattle.demands.specs.InstructionLaws.{Excused, NotCarriedHere, instruction-made, excused-refused, movec-read, movec-write}
+use Rattle.demands.specs.InstructionLaws.{instruction-made}
 use Rattle.demands.specs.StepLaws.{doing, fetched, not-fetched, perform-refused, Stepped, stepped}
 use Rattle.demands.specs.ReplyLaws as laws
-use Rattle.demands.specs.Exact.{numbered, Bytes, TooLong, Usable, Ready, NotCarriedWord, OneOf}
+use Rattle.demands.specs.Exact.{numbered, TooLong, Usable, Ready, OneOf}
 
--- ---- the words that are not carried
-
-read-row : (op : ℕ) → op ≡ 0x4E7A → rowOf op ≡ movecRead
-unfolding rowOf
-read-row op h = rw h
-
-write-row : (op : ℕ) → op ≡ 0x4E7B → rowOf op ≡ movecWrite
-unfolding rowOf
-write-row op h = rw h
-
-kinds : (op : ℕ) → op < 0x1_0000 → Excused op ↔ NotCarriedWord op
-kinds op small = (⊎-elim (λ h. inl (movec-read op small h)) (λ h. inr (movec-write op small h)), ⊎-elim (λ h. inl (read-row op h)) (λ h. inr (write-row op h)))
-
-pub line-8-carried : (op : ℕ) → op / 0x1000 ≡ 8 → NotCarriedWord op → ⊥
-line-8-carried op h = ⊎-elim (λ e. omega arith) (λ e. omega arith)
-
-pub line-a-carried : (op : ℕ) → op / 0x1000 ≡ 10 → NotCarriedWord op → ⊥
-line-a-carried op h = ⊎-elim (λ e. omega arith) (λ e. omega arith)
+no-5 : (n : ℕ) → OneOf (0 ∷ 1 ∷ 2 ∷ 3 ∷ 4 ∷ []) n → n ≡ 5 → ⊥
+no-5 n w e = omega (arith, laws.at-most 4 n (0 ∷ 1 ∷ 2 ∷ 3 ∷ 4 ∷ []) refl w)
 
 -- ---- a step
 
@@ -77,10 +59,6 @@ module _ (s : Cpu) (l : Lent) where
 
   abbrev changing : Change
   changing = instruction (s .r) (s .pc) (s .sr) (s .other) (s .emac) m op
-
-  -- the first fault of the accesses, x, if there is one; or 5, where there is none
-  abbrev Kind : ℕ → Stored → Type 0
-  Kind n x = (n ≡ numberOr x 0) ⊎ ((n ≡ 5) × ((x ≡ Taken) × (Inside m (s .pc) 2 × Excused op)))
 
   -- once the word is fetched: its own reads, and what is then done
   abbrev own : List Wanted
@@ -108,9 +86,9 @@ module _ (s : Cpu) (l : Lent) where
     number : n ≡ numberOr (both x y) 0
     effect-had : n ≡ 0 → Performs s m does (perform s changing m)
 
-  changing-meets : Made (s .pc) (s .sr) m own does changing → Meets (numbered (perform s changing m)) (accessAll m own) (accessAll m done-then)
+  changing-meets : Meets (numbered (perform s changing m)) (accessAll m own) (accessAll m done-then)
   unfolding refusal
-  changing-meets = by (accessAll m own)
+  changing-meets = by (accessAll m own) (instruction-made (s .r) (s .pc) (s .sr) (s .other) (s .emac) m op)
     where
       by : (x : Stored) → Follows (s .pc) (s .sr) x does changing → Meets (numbered (perform s changing m)) x (accessAll m done-then)
       by Taken h = let p : Performs s m does (perform s changing m) = performs s m h in record { number = p .answers; effect-had = λ e. p }
@@ -118,89 +96,44 @@ module _ (s : Cpu) (l : Lent) where
           let e : numbered (perform s changing m) ≡ numberOf (faultReply x) = ap (λ (c : Change). numbered (perform s c m)) h ∙ ap numbered (perform-refused s x m) in
           record { number = e; effect-had = λ z. absurd (fault-number x (sym e ∙ z)) }
 
-  changing-kind : Inside m (s .pc) 2 → Kind (numbered (perform s changing m)) all
-  changing-kind i =
-      rw (after-fetch i)
-      (⊎-elim refused (λ h. inl (changing-meets h .number)) (instruction-made (s .r) (s .pc) (s .sr) (s .other) (s .emac) m op))
-    where
-      refused : NotCarriedHere (s .r) (s .pc) (s .sr) (s .other) (s .emac) m op → Kind (numbered (perform s changing m)) (both (accessAll m own) (accessAll m done-then))
-      refused h =
-          inr (
-            ap (λ (c : Change). numbered (perform s c m)) (h .refused-5) ∙ laws.perform-5 s m,
-            (rw (h .inside-all, h .no-effect), (i, h .excused)),
-          )
-
-  acted-kind : Kind (numbered acted) all
+  acted-number : numbered acted ≡ numberOr all 0
   unfolding refusal
-  acted-kind = by (access m (s .pc) 2) refl
+  acted-number = by (access m (s .pc) 2) refl
     where
-      by : (x : Access) → access m (s .pc) 2 ≡ x → Kind (numbered acted) all
+      by : (x : Access) → access m (s .pc) 2 ≡ x → numbered acted ≡ numberOr all 0
       by (Not x) i =
-          inl (ap (λ (c : Change). numbered (perform s c m)) (not-fetched (s .r) (s .pc) (s .sr) (s .other) (s .emac) m x i) ∙ ap numbered (perform-refused s x m) ∙ rw (no-fetch x i))
+          ap (λ (c : Change). numbered (perform s c m)) (not-fetched (s .r) (s .pc) (s .sr) (s .other) (s .emac) m x i) ∙ ap numbered (perform-refused s x m) ∙ rw (no-fetch x i)
       by (Here p) i =
           let h : Inside m (s .pc) 2 = ap taken i in
-          rw (fetched (s .r) (s .pc) (s .sr) (s .other) (s .emac) m op h refl) (changing-kind h)
+          rw (fetched (s .r) (s .pc) (s .sr) (s .other) (s .emac) m op h refl, after-fetch h) (changing-meets .number)
 
-  acted-never : (k : ℕ) → (0 ≡ k → ⊥) → (4 ≡ k → ⊥) → (5 ≡ k → ⊥) → numbered acted ≡ k → ⊥
-  acted-never k n0 n4 n5 e =
-      ⊎-elim (λ h. ⊎-elim (λ z. n0 (sym z ∙ sym h ∙ e)) (λ z. n4 (sym z ∙ sym h ∙ e)) (laws.zero-or-4 all)) (λ h. n5 (sym (h .0) ∙ e)) acted-kind
+  acted-never : (k : ℕ) → (0 ≡ k → ⊥) → (4 ≡ k → ⊥) → numbered acted ≡ k → ⊥
+  acted-never k n0 n4 e = ⊎-elim (λ z. n0 (sym z ∙ sym acted-number ∙ e)) (λ z. n4 (sym z ∙ sym acted-number ∙ e)) (laws.zero-or-4 all)
 
   inner-number : numbered inner ≡ cond (s .stopped) 3 (numbered acted)
   unfolding refusal
   inner-number = laws.number-cond (s .stopped) (unchanged s Stopped m) acted
 
-  inner-never : (k : ℕ) → (0 ≡ k → ⊥) → (3 ≡ k → ⊥) → (4 ≡ k → ⊥) → (5 ≡ k → ⊥) → numbered inner ≡ k → ⊥
-  inner-never k n0 n3 n4 n5 e = laws.neither (s .stopped) 3 (numbered acted) k n3 (acted-never k n0 n4 n5) (sym inner-number ∙ e)
+  inner-never : (k : ℕ) → (0 ≡ k → ⊥) → (3 ≡ k → ⊥) → (4 ≡ k → ⊥) → numbered inner ≡ k → ⊥
+  inner-never k n0 n3 n4 e = laws.neither (s .stopped) 3 (numbered acted) k n3 (acted-never k n0 n4) (sym inner-number ∙ e)
 
   pub of-step-1 : (numbered (step s l) ≡ 1) ↔ TooLong l
   unfolding step
-  of-step-1 = laws.checked-1 s l inner (inner-never 1 (λ h. omega arith) (λ h. omega arith) (λ h. omega arith) (λ h. omega arith))
+  of-step-1 = laws.checked-1 s l inner (inner-never 1 (λ h. omega arith) (λ h. omega arith) (λ h. omega arith))
 
   pub of-step-2 : (numbered (step s l) ≡ 2) ↔ (Usable l × (admitted s ≡ false))
   unfolding step
-  of-step-2 = laws.checked-2 s l inner (inner-never 2 (λ h. omega arith) (λ h. omega arith) (λ h. omega arith) (λ h. omega arith))
+  of-step-2 = laws.checked-2 s l inner (inner-never 2 (λ h. omega arith) (λ h. omega arith) (λ h. omega arith))
 
   pub of-step-3 : (numbered (step s l) ≡ 3) ↔ (Ready s l × (s .stopped ≡ true))
   unfolding step
   of-step-3 =
       laws.iff-trans (laws.checked-on s l inner 3 (λ h. omega arith) (λ h. omega arith))
       (laws.iff-and laws.iff-same
-      (rw inner-number (laws.here 3 (numbered acted) (acted-never 3 (λ h. omega arith) (λ h. omega arith) (λ h. omega arith)) (s .stopped))))
-
-  -- a fault is not 5
-  fault-not-5 : numberOr all 0 ≡ 5 → ⊥
-  fault-not-5 e = ⊎-elim (λ z. omega arith) (λ z. omega arith) (laws.zero-or-4 all)
-
-  acted-5 : Bytes (l .storage) → (numbered acted ≡ 5) ↔ (Inside m (s .pc) 2 × NotCarriedWord op)
-  acted-5 bytes = (there, back)
-    where
-      small : op < 0x1_0000
-      small = word-lt m (s .pc) bytes
-
-      there : numbered acted ≡ 5 → Inside m (s .pc) 2 × NotCarriedWord op
-      there e =
-          ⊎-elim (λ h. absurd (fault-not-5 (sym h ∙ e))) (λ h. (h .1 .1 .0, kinds op small .0 (h .1 .1 .1))) acted-kind
-
-      back : Inside m (s .pc) 2 × NotCarriedWord op → numbered acted ≡ 5
-      back h =
-          ap (λ (c : Change). numbered (perform s c m))
-          (fetched (s .r) (s .pc) (s .sr) (s .other) (s .emac) m op (h .0) refl
-          ∙ excused-refused (s .r) (s .pc) (s .sr) (s .other) (s .emac) m op small (kinds op small .1 (h .1)))
-          ∙ laws.perform-5 s m
-
-  pub of-step-5 : Bytes (l .storage) → (numbered (step s l) ≡ 5) ↔ (Ready s l × ((s .stopped ≡ false) × (Inside m (s .pc) 2 × NotCarriedWord op)))
-  unfolding step
-  of-step-5 bytes =
-      laws.iff-trans (laws.checked-on s l inner 5 (λ h. omega arith) (λ h. omega arith))
-      (laws.iff-and laws.iff-same
-      (rw inner-number (laws.iff-trans (laws.later 5 (numbered acted) 3 (λ h. omega arith) (s .stopped)) (laws.iff-and laws.iff-same (acted-5 bytes)))))
+      (rw inner-number (laws.here 3 (numbered acted) (acted-never 3 (λ h. omega arith) (λ h. omega arith)) (s .stopped))))
 
   acted-4 : (numbered acted ≡ 4) ↔ SomeOutside m (accesses s m)
-  acted-4 = laws.iff-trans (by all acted-kind) (some-outside m (accesses s m))
-    where
-      by : (x : Stored) → Kind (numbered acted) x → (numbered acted ≡ 4) ↔ (numberOr x 0 ≡ 4)
-      by x (inl h) = rw h laws.iff-same
-      by x (inr h) = (λ e. absurd (omega (arith, sym (h .0) ∙ e)), λ e. absurd (omega (arith, sym (ap (λ (y : Stored). numberOr y 0) (h .1 .0)) ∙ e)))
+  acted-4 = rw acted-number (some-outside m (accesses s m))
 
   pub of-step-4 : (numbered (step s l) ≡ 4) ↔ (Ready s l × ((s .stopped ≡ false) × SomeOutside m (accesses s m)))
   unfolding step
@@ -209,31 +142,15 @@ module _ (s : Cpu) (l : Lent) where
       (laws.iff-and laws.iff-same
       (rw inner-number (laws.iff-trans (laws.later 4 (numbered acted) 3 (λ h. omega arith) (s .stopped)) (laws.iff-and laws.iff-same acted-4))))
 
-  acted-0 : Bytes (l .storage) → (numbered acted ≡ 0) ↔ ((SomeOutside m (accesses s m) → ⊥) × (NotCarriedWord op → ⊥))
-  acted-0 bytes = (there, back)
-    where
-      fetch-inside : (SomeOutside m (accesses s m) → ⊥) → Inside m (s .pc) 2
-      fetch-inside h = by (access m (s .pc) 2) refl
-        where
-          by : (x : Access) → access m (s .pc) 2 ≡ x → taken x ≡ Taken
-          by (Here p) i = refl
-          by (Not Out) i = absurd (h (some-outside m (accesses s m) .0 (rw (no-fetch Out i))))
+  acted-0 : (numbered acted ≡ 0) ↔ (SomeOutside m (accesses s m) → ⊥)
+  acted-0 = rw acted-number (laws.none-outside m (accesses s m))
 
-      there : numbered acted ≡ 0 → (SomeOutside m (accesses s m) → ⊥) × (NotCarriedWord op → ⊥)
-      there e =
-          let inside-all : SomeOutside m (accesses s m) → ⊥ = λ h. omega (arith, sym (acted-4 .1 h) ∙ e) in
-          (inside-all, λ w. omega (arith, sym (acted-5 bytes .1 (fetch-inside inside-all, w)) ∙ e))
-
-      back : (SomeOutside m (accesses s m) → ⊥) × (NotCarriedWord op → ⊥) → numbered acted ≡ 0
-      back h = ⊎-elim (λ k. k ∙ laws.none-outside m (accesses s m) .1 (h .0)) (λ k. absurd (h .1 (acted-5 bytes .0 (k .0) .1))) acted-kind
-
-  pub of-step-0 : Bytes (l .storage)
-      → (numbered (step s l) ≡ 0) ↔ (Ready s l × ((s .stopped ≡ false) × ((SomeOutside m (accesses s m) → ⊥) × (NotCarriedWord op → ⊥))))
+  pub of-step-0 : (numbered (step s l) ≡ 0) ↔ (Ready s l × ((s .stopped ≡ false) × (SomeOutside m (accesses s m) → ⊥)))
   unfolding step
-  of-step-0 bytes =
+  of-step-0 =
       laws.iff-trans (laws.checked-on s l inner 0 (λ h. omega arith) (λ h. omega arith))
       (laws.iff-and laws.iff-same
-      (rw inner-number (laws.iff-trans (laws.later 0 (numbered acted) 3 (λ h. omega arith) (s .stopped)) (laws.iff-and laws.iff-same (acted-0 bytes)))))
+      (rw inner-number (laws.iff-trans (laws.later 0 (numbered acted) 3 (λ h. omega arith) (s .stopped)) (laws.iff-and laws.iff-same acted-0))))
 
   -- a step that is done has its row's effect
   pub of-effect : numbered (step s l) ≡ 0 → Performs s m does (step s l)
@@ -241,27 +158,21 @@ module _ (s : Cpu) (l : Lent) where
       let d : Stepped s l = stepped s l (done-is _ e) in
       let same : step s l ≡ perform s changing m = d .same ∙ ap (λ (c : Change). perform s c m) (fetched (s .r) (s .pc) (s .sr) (s .other) (s .emac) m op (d .fetch) refl) in
       let e′ : numbered (perform s changing m) ≡ 0 = ap numbered (sym same) ∙ e in
-      rw same
-      (⊎-elim
-      (λ h. absurd (omega (arith, sym (laws.perform-5 s m) ∙ ap (λ (c : Change). numbered (perform s c m)) (sym (h .refused-5)) ∙ e′)))
-      (λ h. changing-meets h .effect-had e′)
-      (instruction-made (s .r) (s .pc) (s .sr) (s .other) (s .emac) m op))
+      rw same (changing-meets .effect-had e′)
 
   pub of-vector : numbered (step s l) ≡ 0 → step s l .stepped .vector ≡ vectorOf does
   of-vector e = of-effect e .says e
 
-  pub of-step : OneOf (0 ∷ 1 ∷ 2 ∷ 3 ∷ 4 ∷ 5 ∷ []) (numbered (step s l))
+  pub of-step : OneOf (0 ∷ 1 ∷ 2 ∷ 3 ∷ 4 ∷ []) (numbered (step s l))
   unfolding step
   of-step =
-      let ks : List ℕ = 0 ∷ 1 ∷ 2 ∷ 3 ∷ 4 ∷ 5 ∷ [] in
-      let one : OneOf ks (numbered acted) =
-      ⊎-elim
-      (λ h. ⊎-elim (λ z. inl (h ∙ z)) (λ z. inr (inr (inr (inr (inl (h ∙ z)))))) (laws.zero-or-4 all))
-      (λ h. inr (inr (inr (inr (inr (inl (h .0)))))))
-      acted-kind
-      in
+      let ks : List ℕ = 0 ∷ 1 ∷ 2 ∷ 3 ∷ 4 ∷ [] in
+      let one : OneOf ks (numbered acted) = ⊎-elim (λ z. inl (acted-number ∙ z)) (λ z. inr (inr (inr (inr (inl (acted-number ∙ z)))))) (laws.zero-or-4 all) in
       laws.checked-of s l inner ks (inr (inl refl)) (inr (inr (inl refl)))
       (laws.same-of ks inner-number (laws.either-of ks (s .stopped) 3 _ (inr (inr (inr (inl refl)))) one))
+
+  pub of-step-5 : numbered (step s l) ≡ 5 → ⊥
+  of-step-5 = no-5 _ of-step
 
 -- ---- the fetch alone
 
@@ -363,13 +274,6 @@ module _ (budget : ℕ) (s : Cpu) (l : Lent) where
       ↔ (Ready s l × ((ran .ran .count < budget) × ((ran .ran .cpu .stopped ≡ false) × SomeOutside (memoryOf l′) (accesses (ran .ran .cpu) (memoryOf l′)))))
   of-run-4 = of-run-step 4 (λ h. omega arith) (λ h. omega arith) (λ h. omega arith) (of-step-4 (ran .ran .cpu) l′)
 
-  pub of-run-5 : Bytes (l .storage)
-      → let pc : ℕ = ran .ran .cpu .pc in
-      let m : Memory = memoryOf l′ in
-      (number ≡ 5)
-      ↔ (Ready s l × ((ran .ran .count < budget) × ((ran .ran .cpu .stopped ≡ false) × (Inside m pc 2 × NotCarriedWord (numberAt m pc Word)))))
-  of-run-5 bytes = of-run-step 5 (λ h. omega arith) (λ h. omega arith) (λ h. omega arith) (of-step-5 (ran .ran .cpu) l′ (runs .still-bytes budget s l bytes))
-
   pub of-run-0 : (number ≡ 0) ↔ (Ready s l × (ran .ran .count ≡ budget))
   of-run-0 = (there, back)
     where
@@ -381,15 +285,18 @@ module _ (budget : ℕ) (s : Cpu) (l : Lent) where
       back : Ready s l × (ran .ran .count ≡ budget) → number ≡ 0
       back h = ⊎-elim (λ d. ap numberOf (d .0)) (λ d. absurd (omega (arith, d .0, h .1))) (runs .ends budget s l (h .0))
 
-  pub of-run : OneOf (0 ∷ 1 ∷ 2 ∷ 3 ∷ 4 ∷ 5 ∷ []) number
+  pub of-run : OneOf (0 ∷ 1 ∷ 2 ∷ 3 ∷ 4 ∷ []) number
   of-run = by (isDone (firstRefusal s l)) refl (first-of s l)
     where
-      by : (b : Bool) → isDone (firstRefusal s l) ≡ b → OneOf (0 ∷ 1 ∷ 2 ∷ []) (numberOf (firstRefusal s l)) → OneOf (0 ∷ 1 ∷ 2 ∷ 3 ∷ 4 ∷ 5 ∷ []) number
+      by : (b : Bool) → isDone (firstRefusal s l) ≡ b → OneOf (0 ∷ 1 ∷ 2 ∷ []) (numberOf (firstRefusal s l)) → OneOf (0 ∷ 1 ∷ 2 ∷ 3 ∷ 4 ∷ []) number
       by true d w =
           ⊎-elim
           (λ x. inl (ap numberOf (x .0)))
-          (λ x. laws.same-of (0 ∷ 1 ∷ 2 ∷ 3 ∷ 4 ∷ 5 ∷ []) (sym (ap numberOf (x .1 .1))) (of-step (ran .ran .cpu) l′))
+          (λ x. laws.same-of (0 ∷ 1 ∷ 2 ∷ 3 ∷ 4 ∷ []) (sym (ap numberOf (x .1 .1))) (of-step (ran .ran .cpu) l′))
           (runs .ends budget s l d)
       by false d (inl z) = inl (number-first d ∙ z)
       by false d (inr (inl z)) = inr (inl (number-first d ∙ z))
       by false d (inr (inr (inl z))) = inr (inr (inl (number-first d ∙ z)))
+
+  pub of-run-5 : number ≡ 5 → ⊥
+  of-run-5 = no-5 number of-run

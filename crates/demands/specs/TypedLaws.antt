@@ -24,10 +24,13 @@ use Rattle.manual.specs.declared.Answer.{Answer}
 use Rattle.manual.specs.declared.Popped.{Popped}
 use Rattle.manual.specs.declared.Write.{Write}
 use Rattle.manual.specs.declared.Action.{Action}
-use Rattle.manual.specs.declared.Action.the-variants.{Nothing, Store, StoreMany, LoadMany, Enter, Return, Status, Stop, PushStatus, Halt, SetOther, Accumulate, SetAcc, SetExt, SetMacsr, SetMask, CopyAcc, ClearAcc, Refuse}
+use Rattle.manual.specs.declared.Action.the-variants.{Nothing, Store, StoreMany, LoadMany, Enter, Return, Status, Stop, PushStatus, Halt, SetOther, Accumulate, SetAcc, SetExt, SetMacsr, SetMask, CopyAcc, ClearAcc, MoveControl, Refuse}
 use Rattle.manual.specs.declared.Change.{Change}
+use Rattle.manual.specs.declared.ControlRegister.{ControlRegister}
+use Rattle.manual.specs.declared.ControlRegister.the-variants.{Cacr, Vbr}
 use Rattle.manual.specs.Word.{plus, minus}
-use Rattle.manual.specs.Registers.{addressOf, withAddress, withPc, withParts, withEmac, written, coded, applied}
+use Rattle.manual.specs.Registers.{addressOf, general, writeGeneral, withAddress, withPc, withParts, withEmac, withVbr, withCacr, written, coded, applied}
+use Rattle.manual.specs.Control.{movecRead, movecWrite, controlMoved}
 use Rattle.manual.specs.Memory.{Storage, Memory, storageOf, valueAt, access, load, numberIn, numberAt, storing, accessMany, loadedMany}
 use Rattle.manual.specs.Emac.{staysAtLimit, withAcc, withSum, accumulate, setMacsr, setMask, setAcc, copyAcc, clearAcc, withExt, setExt}
 use Rattle.manual.specs.Admitted.{status, admitted}
@@ -51,7 +54,7 @@ use Rattle.demands.specs.Exact.{Bytes, Ready}
 use Rattle.demands.specs.AccessLaws.{accessing-all, taking-all}
 use Rattle.demands.specs.Effects.{handed}
 use Rattle.demands.specs.EntryLaws.{swaps}
-use Rattle.demands.specs.ValueLaws.{set-below, store-bytes, status-word, all-typed, registers-typed, pc-typed, sr-typed, stopped-typed, address-typed, other-typed, emac-typed, after-typed}
+use Rattle.demands.specs.ValueLaws.{set-below, store-bytes, status-word, all-typed, registers-typed, pc-typed, sr-typed, stopped-typed, address-typed, other-typed, emac-typed, controls-typed, after-typed}
 use Rattle.demands.specs.Steps.{Steps, none, one-more}
 use Rattle.demands.specs.Runs.{stored-kept, entered-kept, returned-kept, step-storage, runs}
 use Rattle.demands.specs.FitLaws.{either, IsLong, Longs, otherIn, FitsLong, GotBelow, load-below, written-longs}
@@ -181,6 +184,22 @@ applied-typed s c t f =
     (written-longs (c .second) g (f .second-fits) (written-longs (c .first) (s .r) (f .first-fits) (t .registers)))
     (f .pc-fits) (omega (arith, t .sr-word)) (t .other-long) (t .mask-long) (t .four)
 
+-- ---- MOVEC
+
+module _ (s : Cpu) (t : Typed s) where
+  control-long : (c : ControlRegister) → IsLong (movecRead c s)
+  unfolding movecRead
+  control-long Cacr = t .cacr-long
+  control-long Vbr = t .vbr-long
+
+  control-typed : (writes : Bool) (c : ControlRegister) (n : ℕ) → Typed (controlMoved writes c n s)
+  unfolding controlMoved movecWrite withVbr withCacr general writeGeneral
+  control-typed true Cacr n = controls-typed s t (s .vbr) _ (t .vbr-long) (t .registers (n % 16))
+  control-typed true Vbr n = controls-typed s t _ (s .cacr) (omega (arith, t .registers (n % 16))) (t .cacr-long)
+  control-typed false c n =
+      let w : Write = writeGeneral n (movecRead c s) in
+      registers-typed s t _ (length-written w (s .r) ∙ t .sixteen) (written-longs w (s .r) (control-long c) (t .registers))
+
 -- 16 registers, each of them a long
 record Loaded (g : List ℕ) : Type 0 where
   as-many : length g ≡ 16
@@ -264,6 +283,7 @@ module _ (m : Memory) (all : Bytes (storageOf m)) where
       act-typed (SetMask v) o = unit-typed s h _ (set-mask-fits (s .emac) (unit-of s h) v)
       act-typed (CopyAcc from to) o = unit-typed s h _ (copy-acc-fits (s .emac) (unit-of s h) from to)
       act-typed (ClearAcc i) o = unit-typed s h _ (clear-acc-fits (s .emac) (unit-of s h) i)
+      act-typed (MoveControl writes c n) o = control-typed s h writes c n
       act-typed (Refuse n) o = refusal-typed given n kept
 
 perform-typed : (s : Cpu) (c : Change) (m : Memory) → Bytes (storageOf m) → Typed s → FitsLong c → KeptTyped (perform s c m)

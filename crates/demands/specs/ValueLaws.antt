@@ -8,7 +8,7 @@ use native.Mathlib.Omega.{arith}
 use lib.ListN.{length, getD, set, length-set}
 use Rattle.manual.specs.declared.Cpu.{Cpu}
 use Rattle.manual.specs.declared.Emac.{Emac}
-use Rattle.manual.specs.Registers.{addressOf, withAll, withRegisters, withAddress, withPc, withSr, withOther, withEmac, withStopped}
+use Rattle.manual.specs.Registers.{addressOf, withAll, withRegisters, withAddress, withPc, withSr, withOther, withEmac, withStopped, withControls}
 use Rattle.manual.specs.Memory.{Storage, storeAt}
 use Rattle.manual.specs.Admitted.{status}
 use Rattle.manual.specs.Exceptions.{handlerState}
@@ -37,7 +37,7 @@ status-word v = omega arith
 -- ---- a part replaced
 
 module _ (s : Cpu) (typed : Typed s) where
-  -- all that an instruction may change
+  -- all that an instruction but MOVEC may change
   pub all-typed : (g : List ℕ) (at sr other : ℕ) (e : Emac) (b : Bool) → length g ≡ 16 → ((i : ℕ) → getD g i 0 < 2 ^ 32) → at < 2 ^ 32 → sr < 2 ^ 16
       → other < 2 ^ 32 → e .mask < 2 ^ 32 → length (e .acc) ≡ 4 → Typed (withAll g at sr other e b s)
   all-typed g at sr other e b n all p v o k four = record {
@@ -79,6 +79,19 @@ module _ (s : Cpu) (typed : Typed s) where
   pub stopped-typed : (b : Bool) → Typed (withStopped b s)
   unfolding withStopped
   stopped-typed b = all-typed _ _ _ _ _ b (typed .sixteen) (typed .registers) (typed .pc-long) (typed .sr-word) (typed .other-long) (typed .mask-long) (typed .four)
+
+  pub controls-typed : (vbr cacr : ℕ) → vbr < 2 ^ 32 → cacr < 2 ^ 32 → Typed (withControls vbr cacr s)
+  controls-typed vbr cacr v c = record {
+    sixteen = typed .sixteen;
+    registers = typed .registers;
+    pc-long = typed .pc-long;
+    sr-word = typed .sr-word;
+    other-long = typed .other-long;
+    vbr-long = v;
+    cacr-long = c;
+    mask-long = typed .mask-long;
+    four = typed .four;
+  }
 
   pub a7-long : addressOf (s .r) 7 < 2 ^ 32
   unfolding addressOf

@@ -4,11 +4,12 @@ use mathlib.Core.{Bool.Bool, Bool.true, Bool.false, Bool.cond, List.List, List.[
 use lib.{Dec.eqb, Dec.ltb}
 use Rattle.manual.specs.declared.{Size.Size, Size.the-variants.Byte, Size.the-variants.Word, Size.the-variants.Long, Source.Source, Write.Write, Change.Change, Sum.Sum, Quotient.Quotient, Action.Action, Action.the-variants.Return}
 use Rattle.manual.specs.declared.{Action.the-variants.Status, Action.the-variants.Stop, Action.the-variants.PushStatus, Action.the-variants.Halt, Action.the-variants.SetOther, Action.the-variants.StoreMany, Action.the-variants.LoadMany}
+use Rattle.manual.specs.declared.{Action.the-variants.MoveControl, ControlRegister.ControlRegister, Named.Named, Named.the-variants.Control, Named.the-variants.Unknown}
 use Rattle.manual.specs.{Word.plus, Word.minus, Word.cut, Word.merged, Word.signExtended, Bits.bitOf, Bits.withBit, Multiply.longProduct, Multiply.signedLongProduct, Divide.quotient, Divide.signedQuotient, Divide.overflowCodes}
 use Rattle.manual.specs.{Registers.dataOf, Registers.addressOf, Registers.noWrite, Registers.writeData, Registers.writeAddress, Flags.flagX, Flags.flagV, Flags.moveCodes, Flags.keptCodes, Flags.sumCodes, Flags.extendedCodes}
 use Rattle.manual.specs.{Flags.subtracted, Exceptions.supervisor, Memory.Memory, Memory.load, Address.extension, Address.moved, Address.control, Address.destination, Address.operandOf, Change.readingSource, Change.done, Change.store}
-use Rattle.manual.specs.{Change.acting, Change.enter, Change.enterAfter, Change.illegal, Change.privilege, Change.notCarried, Change.jump, Change.push, Change.reading, Change.reaching, Change.putTo, Change.updating, Change.result}
-use Rattle.manual.specs.{Fields.upper, Fields.mode, Fields.register, Fields.sizeField, Fields.lowFour, Fields.bits}
+use Rattle.manual.specs.{Change.acting, Change.enter, Change.enterAfter, Change.illegal, Change.privilege, Change.jump, Change.push, Change.reading, Change.reaching, Change.putTo, Change.updating, Change.result}
+use Rattle.manual.specs.{Fields.upper, Fields.mode, Fields.register, Fields.sizeField, Fields.lowFour, Fields.highFour, Fields.controlField, Fields.bits, Control.controlRegister}
 use Rattle.instructions.specs.{Rows.firstRow, Rows.byRow}
 
 -- ---- control
@@ -143,6 +144,22 @@ unfoldable pub moveToCcr : List ℕ → ℕ → Memory → ℕ → Change
 moveToCcr g at m op =
     readingSource g m (plus at 2) op Word λ from v.
     done (from .next) (keptCodes v) (from .moved) noWrite
+
+-- goes on with the control register that a number names; a number that names none is an illegal instruction
+abbrev pub naming : ℕ → ℕ → Named → (ControlRegister → Change) → Change
+naming sr at (Control c) f = f c
+naming sr at Unknown f = illegal at sr
+
+-- MOVEC.L Ry,Rc (S): Ry → Rc, or Rc → Ry. Of the second word bits 15 to 12 are Ry, D0 to A7, and bits 11 to 0 Rc. Condition codes are not affected
+-- 12. The word is fetched before the privilege test. The manual: the violation comes before any effect
+-- 58. Rc → Ry, by 0x4E7A. The manual: MOVEC writes control registers alone, and the word is illegal
+unfoldable pub movec : Bool → ℕ → ℕ → Memory → Change
+movec writes at sr m =
+    let pc : ℕ = plus at 2 in
+    reading (load m pc Word) λ w.
+    cond (supervisor sr)
+    (naming sr at (controlRegister (controlField w)) λ c. acting sr (plus pc 2) noWrite (MoveControl writes c (highFour w)))
+    (privilege at sr)
 
 -- ---- MOVEM.L #list,<ea>x and <ea>y,#list: the registers of a word, D0 in bit 0 and A7 in bit 15, one after the other from the address on.
 -- Condition codes are not affected
@@ -297,8 +314,8 @@ line4 row g at sr other m op =
     stop at sr m ∷  -- 21 STOP 4E72/FFFF
     rte at sr ∷  -- 22 RTE 4E73/FFFF
     rts g sr m ∷  -- 23 RTS 4E75/FFFF
-    notCarried ∷  -- 24 MOVEC_READ 4E7A/FFFF
-    notCarried ∷  -- 25 MOVEC_WRITE 4E7B/FFFF
+    movec false at sr m ∷  -- 24 MOVEC_READ 4E7A/FFFF
+    movec true at sr m ∷  -- 25 MOVEC_WRITE 4E7B/FFFF
     halt at sr ∷  -- 26 HALT 4AC8/FFFF
     nop at sr ∷  -- 27 PULSE 4ACC/FFFF
     illegal at sr ∷  -- 28 ILLEGAL 4AFC/FFFF

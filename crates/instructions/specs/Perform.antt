@@ -4,10 +4,10 @@ use mathlib.Core.{Bool.true}
 use Rattle.manual.specs.declared.{Cpu.Cpu, Size.the-variants.Long, Level.the-variants.Kept, Action.Action, Action.the-variants.Nothing, Action.the-variants.Store, Action.the-variants.StoreMany, Action.the-variants.LoadMany}
 use Rattle.manual.specs.declared.{Action.the-variants.Enter, Action.the-variants.Return, Action.the-variants.Status, Action.the-variants.Stop, Action.the-variants.PushStatus, Action.the-variants.Halt, Action.the-variants.SetOther}
 use Rattle.manual.specs.declared.{Action.the-variants.Accumulate, Action.the-variants.SetAcc, Action.the-variants.SetExt, Action.the-variants.SetMacsr, Action.the-variants.SetMask, Action.the-variants.CopyAcc, Action.the-variants.ClearAcc}
-use Rattle.manual.specs.declared.{Action.the-variants.Refuse, Change.Change}
+use Rattle.manual.specs.declared.{Action.the-variants.MoveControl, Action.the-variants.Refuse, Change.Change}
 use Rattle.manual.specs.{Word.minus, Registers.addressOf, Registers.withAddress, Registers.withRegisters, Registers.withOther, Registers.withEmac, Registers.withStopped, Registers.applied, Memory.Memory, Memory.storageOf, Memory.storing}
 use Rattle.manual.specs.{Memory.stored, Memory.accessMany, Memory.storedMany, Memory.loadedMany, Reply.Outcome, Reply.completed, Reply.unchanged, Reply.taking, Exceptions.setSr, Exceptions.entered, Exceptions.returned, Emac.accumulate}
-use Rattle.manual.specs.{Emac.setAcc, Emac.setExt, Emac.setMacsr, Emac.setMask, Emac.copyAcc, Emac.clearAcc}
+use Rattle.manual.specs.{Emac.setAcc, Emac.setExt, Emac.setMacsr, Emac.setMask, Emac.copyAcc, Emac.clearAcc, Control.controlMoved}
 
 -- STRLDSR: the status register is pushed as a long, and then replaced
 -- 10. An immediate with S clear goes to user mode. The manual: a privilege violation
@@ -41,6 +41,7 @@ act given s (SetMacsr v) m = completed (withEmac (setMacsr (s .emac) v) s) 0 (st
 act given s (SetMask v) m = completed (withEmac (setMask (s .emac) v) s) 0 (storageOf m)
 act given s (CopyAcc from to) m = completed (withEmac (copyAcc (s .emac) from to) s) 0 (storageOf m)
 act given s (ClearAcc i) m = completed (withEmac (clearAcc (s .emac) i) s) 0 (storageOf m)
+act given s (MoveControl writes c n) m = completed (controlMoved writes c n s) 0 (storageOf m)
 act given s (Refuse n) m = unchanged given n m
 
 unfoldable pub perform : Cpu → Change → Memory → Outcome

@@ -29,11 +29,11 @@ use super::status::move_from_usp;
 use super::status::move_to_ccr;
 use super::status::move_to_sr;
 use super::status::move_to_usp;
+use super::status::movec;
 use super::status::rte;
 use super::status::stldsr;
 use super::status::stop;
 use address::changes::illegal;
-use address::changes::not_carried;
 use manual::Change;
 ghost use mathlib.Core.Path.{_≡_};
 ghost use Prim.Native.Nat.{_+_, _*_, _/_, _%_, _<_};
@@ -57,8 +57,8 @@ pub fn instruction(
         rows::STOP => stop(at, sr, mem),
         rows::RTE => rte(at, sr),
         rows::RTS => rts(g, sr, mem),
-        rows::MOVEC_READ => not_carried(),
-        rows::MOVEC_WRITE => not_carried(),
+        rows::MOVEC_READ => movec(false, at, sr, mem),
+        rows::MOVEC_WRITE => movec(true, at, sr, mem),
         rows::HALT => halt(at, sr),
         rows::PULSE => nop(at, sr),
         rows::ILLEGAL => illegal(at, sr),

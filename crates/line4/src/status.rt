@@ -1,4 +1,4 @@
-// Line 4: the status register, and what the supervisor alone may do.
+// Line 4: the status register, the control registers, and what the supervisor alone may do.
 use address::changes::acting;
 use address::changes::done;
 use address::changes::enter_after;
@@ -10,8 +10,10 @@ use manual::Action;
 use manual::Change;
 use manual::Fault;
 use manual::Got;
+use manual::Named;
 use manual::Size;
 use memory::load;
+use state::control::control_register;
 use word::flags::kept_codes;
 use word::registers::address;
 use word::registers::data;
@@ -26,7 +28,7 @@ ghost use Prim.Native.Nat.{_+_, _*_, _/_, _%_, _<_};
 ghost use Rattle.manual.specs.Memory.{mapped};
 ghost use Rattle.manual.specs.Exceptions.{supervisor};
 ghost use Rattle.manual.specs.Change.{privilege as privilegeOf};
-ghost use Rattle.instructions.specs.Line4.{rte as rteOf, stop as stopOf, stldsr as stldsrOf, halt as haltOf, moveToUsp, moveFromUsp, moveFromSr, moveToSr, moveFromCcr, moveToCcr};
+ghost use Rattle.instructions.specs.Line4.{rte as rteOf, stop as stopOf, stldsr as stldsrOf, halt as haltOf, moveToUsp, moveFromUsp, moveFromSr, moveToSr, moveFromCcr, moveToCcr, movec as movecOf};
 
 // What the supervisor alone may do. For anyone else it is a privilege violation.
 fn privileged(at: u32, sr: u16, does: Change) -> Change
@@ -168,4 +170,21 @@ pub fn move_to_ccr(g: &[u32; 16], at: u32, mem: &[u8], op: u32) -> Change
     let next = from.next;
     let first = from.moved;
     done(next, v % 32, first, no_write())
+}
+
+// MOVEC to a control register or from it, or vector 8 for a user; vector 4 where the number names none.
+pub fn movec(writes: bool, at: u32, sr: u16, mem: &[u8]) -> Change
+    ensures { λ e. ⌜ e ≡ movecOf writes at sr (mapped (now (mem .entry))) ⌝ }
+{
+    let pc = plus(at, 2);
+    let w = match load(mem, pc, Size::Word) {
+        Got::Value(w) => w,
+        Got::Fault(outside) => return refused(outside),
+    };
+    let Named::Control(c) = control_register(w % 0x1000) else {
+        return privileged(at, sr, illegal(at, sr));
+    };
+    let next = plus(pc, 2);
+    let action = Action::MoveControl(writes, c, w / 0x1000 % 16);
+    privileged(at, sr, acting(sr, next, no_write(), action))
 }

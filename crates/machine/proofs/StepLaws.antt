@@ -15,7 +15,7 @@ use Rattle.manual.specs.declared.Stored.the-variants.{Done as Taken, Fault as N
 use Rattle.manual.specs.declared.Reply.{Reply}
 use Rattle.manual.specs.declared.Reply.the-variants.{Done, Stopped}
 use Rattle.manual.specs.declared.Action.{Action}
-use Rattle.manual.specs.declared.Action.the-variants.{Nothing, Store, StoreMany, LoadMany, Enter, Return, Status, Stop, PushStatus, Halt, SetOther, Accumulate, SetAcc, SetExt, SetMacsr, SetMask, CopyAcc, ClearAcc, Refuse}
+use Rattle.manual.specs.declared.Action.the-variants.{Nothing, Store, StoreMany, LoadMany, Enter, Return, Status, Stop, PushStatus, Halt, SetOther, Accumulate, SetAcc, SetExt, SetMacsr, SetMask, CopyAcc, ClearAcc, MoveControl, Refuse}
 use Rattle.manual.specs.declared.Change.{Change}
 use Rattle.manual.specs.Word.{plus, minus}
 use Rattle.manual.specs.Registers.{addressOf, applied}
@@ -99,6 +99,7 @@ module _ (given : Cpu) (m : Memory) where
   of-action s (SetMask v) = λ h. refl
   of-action s (CopyAcc from to) = λ h. refl
   of-action s (ClearAcc i) = λ h. refl
+  of-action s (MoveControl writes c n) = λ h. refl
   of-action s (Refuse n) = refused given n m
 
 of-step : (s : Cpu) (l : Lent) → NoVector (step s l)

@@ -8,7 +8,7 @@ use Rattle.manual.specs.declared.Emac.{Emac}
 use Rattle.manual.specs.declared.Size.the-variants.{Long}
 use Rattle.manual.specs.declared.Level.the-variants.{Kept}
 use Rattle.manual.specs.declared.Action.{Action}
-use Rattle.manual.specs.declared.Action.the-variants.{Nothing, Store, StoreMany, LoadMany, Enter, Return, Status, Stop, PushStatus, Halt, SetOther, Accumulate, SetAcc, SetExt, SetMacsr, SetMask, CopyAcc, ClearAcc, Refuse}
+use Rattle.manual.specs.declared.Action.the-variants.{Nothing, Store, StoreMany, LoadMany, Enter, Return, Status, Stop, PushStatus, Halt, SetOther, Accumulate, SetAcc, SetExt, SetMacsr, SetMask, CopyAcc, ClearAcc, MoveControl, Refuse}
 use Rattle.manual.specs.declared.Change.{Change}
 use Rattle.manual.specs.Word.{minus}
 use Rattle.manual.specs.Registers.{addressOf, withAddress, withRegisters, withEmac, applied}
@@ -17,7 +17,7 @@ use Rattle.manual.specs.Admitted.{admitted, emacAdmitted}
 use Rattle.manual.specs.Exceptions.{setSr}
 use Rattle.manual.specs.Emac.{accumulate, setAcc, setExt, setMacsr, setMask, copyAcc, clearAcc}
 use Rattle.instructions.specs.Perform.{statusPushed, act, perform}
-use Rattle.state.specs.AdmittedLaws.{admitted-emac, registers-admitted, address-admitted, other-admitted, stopped-admitted, emac-admitted, applied-admitted, set-sr-admitted}
+use Rattle.state.specs.AdmittedLaws.{admitted-emac, registers-admitted, address-admitted, other-admitted, stopped-admitted, emac-admitted, control-admitted, applied-admitted, set-sr-admitted}
 use Rattle.exceptions.specs.EntryAdmitted.{refusal-admitted, taking-admitted, entered-admitted, returned-admitted}
 use Rattle.emac.specs.EmacKept.{accumulate-kept, set-macsr-kept, set-acc-kept, copy-acc-kept, clear-acc-kept, set-ext-kept, set-mask-kept}
 
@@ -54,6 +54,7 @@ module _ (given s : Cpu) (m : Memory) (k : admitted given ≡ true) (h : admitte
   act-admitted (SetMask v) = unit-admitted (setMask (s .emac) v) (set-mask-kept (s .emac) unit v)
   act-admitted (CopyAcc from to) = unit-admitted (copyAcc (s .emac) from to) (copy-acc-kept (s .emac) unit from to)
   act-admitted (ClearAcc i) = unit-admitted (clearAcc (s .emac) i) (clear-acc-kept (s .emac) unit i)
+  act-admitted (MoveControl writes c n) = control-admitted writes c n s h
   act-admitted (Refuse n) = refusal-admitted given n k
 
 pub perform-admitted : (given : Cpu) (c : Change) (m : Memory) → admitted given ≡ true → admitted (perform given c m .stepped .cpu) ≡ true

@@ -21,6 +21,7 @@ use manual::Stored;
 use memory::many::load_many;
 use memory::many::store_many;
 use memory::store;
+use state::control::movec;
 use state::status::with_status;
 use word::registers::address;
 use word::registers::applied;
@@ -107,6 +108,7 @@ pub fn perform(given: Cpu, change: Change, mem: &mut [u8]) -> Stepped
         Action::SetMask(v) => completed(with_emac(cpu, set_mask(e, v))),
         Action::CopyAcc(from, to) => completed(with_emac(cpu, copy_acc(e, from, to))),
         Action::ClearAcc(i) => completed(with_emac(cpu, clear_acc(e, i))),
+        Action::MoveControl(writes, c, n) => completed(movec(cpu, writes, c, n)),
         Action::Refuse(n) => refusal(given, n),
     }
 }

@@ -3,7 +3,7 @@ use Prim.Native.Nat.{ℕ}
 use mathlib.Core.{List.List}
 use Rattle.manual.specs.declared.{Size.Size, Fault.Fault, Got.Got, Got.the-variants.Value, Got.the-variants.Fault as NoValue, Place.Place, Place.the-variants.D, Place.the-variants.A, Place.the-variants.M, Place.the-variants.I}
 use Rattle.manual.specs.declared.{Place.the-variants.Fault as NoPlace, Reached.Reached, Reached.the-variants.At, Reached.the-variants.NoAddress, Write.Write, Source.Source, Destination.Destination, Reply.Reply}
-use Rattle.manual.specs.declared.{Reply.the-variants.NotCarried, Action.Action, Action.the-variants.Nothing, Action.the-variants.Store, Action.the-variants.Enter, Action.the-variants.Refuse, Change.Change, Size.the-variants.Long}
+use Rattle.manual.specs.declared.{Action.Action, Action.the-variants.Nothing, Action.the-variants.Store, Action.the-variants.Enter, Action.the-variants.Refuse, Change.Change, Size.the-variants.Long}
 use Rattle.manual.specs.{Word.merged, Word.minus, Registers.dataOf, Registers.addressOf, Registers.noWrite, Registers.writeData, Registers.writeAddress, Flags.keptCodes, Memory.Memory, Address.fetch, Address.source}
 use Rattle.manual.specs.{Address.destination, Reply.faultReply, Differences.storeToAddress, Differences.storeToImmediate}
 
@@ -39,10 +39,6 @@ refuse n = record { pc = 0; ccr = 0; first = noWrite; second = noWrite; action =
 
 unfoldable pub refused : Fault → Change
 refused x = refuse (faultReply x)
-
--- a word that this core does not carry yet
-unfoldable pub notCarried : Change
-notCarried = refuse NotCarried
 
 -- the program goes on elsewhere
 unfoldable pub jump : ℕ → ℕ → Change

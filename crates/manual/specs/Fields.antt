@@ -55,6 +55,11 @@ lowFour w = w % 16
 abbrev pub highFour : ℕ → ℕ
 highFour w = bits 15 12 w
 
+-- ---- the number of a control register in MOVEC's second word
+
+abbrev pub controlField : ℕ → ℕ
+controlField w = w % 0x1000
+
 -- ---- the EMAC's words
 
 -- ACCx, and ACCy where there is a second; the even accumulator of ACCext01 or ACCext23; and the register Rx of MAC

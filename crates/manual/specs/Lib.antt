@@ -9,6 +9,7 @@ pub mod Memory
 pub mod Address
 pub mod Reply
 pub mod Change
+pub mod Control
 pub mod Shift
 pub mod Multiply
 pub mod Divide

@@ -35,7 +35,7 @@ written w g = cond (ltb (w .to) 16) (set g (w .to) (w .value)) g
 
 -- ---- the state with a part replaced
 
--- the state with all that an instruction may change; the rest is as it was
+-- the state with all that an instruction but MOVEC may change; the rest is as it was
 abbrev pub withAll : List ℕ → ℕ → ℕ → ℕ → Emac → Bool → Cpu → Cpu
 withAll g at sr other e stopped s = record { r = g; pc = at; sr = sr; other = other; vbr = s .vbr; cacr = s .cacr; emac = e; stopped = stopped }
 
@@ -62,6 +62,16 @@ withEmac e s = withAll (s .r) (s .pc) (s .sr) (s .other) e (s .stopped) s
 
 unfoldable pub withStopped : Bool → Cpu → Cpu
 withStopped b s = withAll (s .r) (s .pc) (s .sr) (s .other) (s .emac) b s
+
+-- the state with its control registers; the rest is as it was
+abbrev pub withControls : ℕ → ℕ → Cpu → Cpu
+withControls vbr cacr s = record { r = s .r; pc = s .pc; sr = s .sr; other = s .other; vbr = vbr; cacr = cacr; emac = s .emac; stopped = s .stopped }
+
+unfoldable pub withVbr : ℕ → Cpu → Cpu
+withVbr v s = withControls v (s .cacr) s
+
+unfoldable pub withCacr : ℕ → Cpu → Cpu
+withCacr v s = withControls (s .vbr) v s
 
 -- the status register with other condition codes
 -- 34. CCR has five bits. The manual: V3 cores have a sixth, P, bit 7

@@ -147,6 +147,18 @@ pub enum EmacPart {
     Mask,
 }
 
+// The control registers that MOVEC is carried for.
+pub enum ControlRegister {
+    Cacr,
+    Vbr,
+}
+
+// What the number of a control register names.
+pub enum Named {
+    Control(ControlRegister),
+    Unknown,
+}
+
 // The interrupt mask that an exception sets, if any.
 pub enum Level {
     Kept,
@@ -169,7 +181,8 @@ pub enum Reply {
 
 // What an instruction leaves to be done beyond its own registers. StoreMany and LoadMany are MOVEM's: a mask of registers
 // and an address. Stop, PushStatus and Status hand on a new status register. Accumulate is MAC and MSAC: the accumulator,
-// the scale factor, whether the product is taken from it, and the two operands.
+// the scale factor, whether the product is taken from it, and the two operands. MoveControl is MOVEC: whether the control
+// register is written, which one it is, and the general register.
 pub enum Action {
     Nothing,
     Store(u32, Size, u32),
@@ -189,6 +202,7 @@ pub enum Action {
     SetMask(u32),
     CopyAcc(u32, u32),
     ClearAcc(u32),
+    MoveControl(bool, ControlRegister, u32),
     Refuse(Reply),
 }
 

@@ -7,7 +7,7 @@ use mathlib.Core.List.{List}
 use Rattle.manual.specs.declared.Cpu.{Cpu}
 use Rattle.manual.specs.declared.Emac.{Emac}
 use Rattle.manual.specs.declared.Action.{Action}
-use Rattle.manual.specs.declared.Action.the-variants.{Nothing, Store, StoreMany, LoadMany, Enter, Return, Status, Stop, PushStatus, Halt, SetOther, Accumulate, SetAcc, SetExt, SetMacsr, SetMask, CopyAcc, ClearAcc, Refuse}
+use Rattle.manual.specs.declared.Action.the-variants.{Nothing, Store, StoreMany, LoadMany, Enter, Return, Status, Stop, PushStatus, Halt, SetOther, Accumulate, SetAcc, SetExt, SetMacsr, SetMask, CopyAcc, ClearAcc, MoveControl, Refuse}
 use Rattle.manual.specs.declared.Change.{Change}
 use Rattle.manual.specs.Registers.{written, coded, applied, withParts, withEmac}
 use Rattle.manual.specs.Emac.{accumulate}
@@ -60,6 +60,7 @@ module _ (g : List ℕ) (pc sr : ℕ) (e : Emac) (rest : Cpu) (m : Memory) (c : 
   by-action (SetMask v) h = absurd (clash h)
   by-action (CopyAcc from to) h = absurd (clash h)
   by-action (ClearAcc i) h = absurd (clash h)
+  by-action (MoveControl writes c n) h = absurd (clash h)
   by-action (Refuse n) h = absurd (clash h)
 
   pub summed-performed : summed pc′ sr g′ e′ ≡ inUnit c sr e g → next ≡ perform state c m

@@ -6,7 +6,7 @@ use Rattle.manual.specs.declared.Size.the-variants.{Long}
 use Rattle.manual.specs.declared.Write.{Write}
 use Rattle.manual.specs.declared.Emac.{Emac}
 use Rattle.manual.specs.declared.Action.{Action}
-use Rattle.manual.specs.declared.Action.the-variants.{Nothing, Store, StoreMany, LoadMany, Enter, Return, Status, Stop, PushStatus, Halt, SetOther, Accumulate, SetAcc, SetExt, SetMacsr, SetMask, CopyAcc, ClearAcc, Refuse}
+use Rattle.manual.specs.declared.Action.the-variants.{Nothing, Store, StoreMany, LoadMany, Enter, Return, Status, Stop, PushStatus, Halt, SetOther, Accumulate, SetAcc, SetExt, SetMacsr, SetMask, CopyAcc, ClearAcc, MoveControl, Refuse}
 use Rattle.manual.specs.declared.Change.{Change}
 use Rattle.manual.specs.Registers.{general, writeGeneral, written, coded}
 use Rattle.manual.specs.Flags.{keptCodes}
@@ -62,6 +62,7 @@ actedOn (SetMacsr v) f left e = left
 actedOn (SetMask v) f left e = left
 actedOn (CopyAcc from to) f left e = left
 actedOn (ClearAcc i) f left e = left
+actedOn (MoveControl writes c n) f left e = left
 actedOn (Refuse n) f left e = left
 
 unfoldable pub inUnit : Change → ℕ → Emac → List ℕ → AfterMac

@@ -7,7 +7,7 @@ use mathlib.Core.List.{List}
 use Rattle.manual.specs.declared.Cpu.{Cpu}
 use Rattle.manual.specs.declared.Emac.{Emac}
 use Rattle.manual.specs.declared.Action.{Action}
-use Rattle.manual.specs.declared.Action.the-variants.{Nothing, Store, StoreMany, LoadMany, Enter, Return, Status, Stop, PushStatus, Halt, SetOther, Accumulate, SetAcc, SetExt, SetMacsr, SetMask, CopyAcc, ClearAcc, Refuse}
+use Rattle.manual.specs.declared.Action.the-variants.{Nothing, Store, StoreMany, LoadMany, Enter, Return, Status, Stop, PushStatus, Halt, SetOther, Accumulate, SetAcc, SetExt, SetMacsr, SetMask, CopyAcc, ClearAcc, MoveControl, Refuse}
 use Rattle.manual.specs.declared.Change.{Change}
 use Rattle.manual.specs.declared.Stored.{Stored}
 use Rattle.manual.specs.declared.Stored.the-variants.{Done as Taken, Fault as NotTaken}
@@ -79,6 +79,7 @@ module _ (g : List ℕ) (pc sr : ℕ) (e : Emac) (rest : Cpu) (m : Memory) (c : 
   by-action (SetMask v) h = absurd (clash pc′ sr′ g m g′ m′ h)
   by-action (CopyAcc from to) h = absurd (clash pc′ sr′ g m g′ m′ h)
   by-action (ClearAcc i) h = absurd (clash pc′ sr′ g m g′ m′ h)
+  by-action (MoveControl writes c n) h = absurd (clash pc′ sr′ g m g′ m′ h)
   by-action (Refuse n) h = absurd (clash pc′ sr′ g m g′ m′ h)
 
   pub performed : after (Done pc′ sr′) g′ m′ ≡ inPlace c sr g m → next ≡ perform state c m

@@ -9,9 +9,12 @@ use borrow.Author.Tests.{eqb-true, eq-eqb}
 use Rattle.manual.specs.declared.Cpu.{Cpu}
 use Rattle.manual.specs.declared.Emac.{Emac}
 use Rattle.manual.specs.declared.Change.{Change}
-use Rattle.manual.specs.Registers.{addressOf, withParts, withRegisters, withAddress, withPc, withSr, withOther, withEmac, withStopped, coded, applied}
+use Rattle.manual.specs.declared.ControlRegister.{ControlRegister}
+use Rattle.manual.specs.declared.ControlRegister.the-variants.{Cacr, Vbr}
+use Rattle.manual.specs.Registers.{addressOf, withParts, withRegisters, withAddress, withPc, withSr, withOther, withEmac, withStopped, withVbr, withCacr, coded, applied}
 use Rattle.manual.specs.Admitted.{status, emacAdmitted, admitted}
 use Rattle.manual.specs.Exceptions.{supervisor, twoStacks, setSr}
+use Rattle.manual.specs.Control.{movecWrite, controlMoved}
 
 -- ---- the parts
 
@@ -109,6 +112,12 @@ sr-admitted v s h e = rw (eq-eqb _ _ h) e
 pub emac-admitted : (e : Emac) (s : Cpu) → emacAdmitted e ≡ true → admitted s ≡ true → admitted (withEmac e s) ≡ true
 unfolding withEmac
 emac-admitted e s k h = admitted-of (withEmac e s) (admitted-status s h) k
+
+pub control-admitted : (writes : Bool) (c : ControlRegister) (n : ℕ) (s : Cpu) → admitted s ≡ true → admitted (controlMoved writes c n s) ≡ true
+unfolding admitted controlMoved movecWrite withVbr withCacr withRegisters
+control-admitted true Cacr n s h = h
+control-admitted true Vbr n s h = h
+control-admitted false c n s h = h
 
 pub parts-admitted : (g : List ℕ) (at sr : ℕ) (e : Emac) (s : Cpu) → status sr ≡ sr → emacAdmitted e ≡ true → admitted (withParts g at sr e s) ≡ true
 unfolding withParts

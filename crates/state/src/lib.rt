@@ -1,4 +1,5 @@
-// The state: its status register and what is admitted, the fresh state, and the numbers of replies.
+// The state: its status register and what is admitted, the control registers, the fresh state, and the numbers of replies.
+pub mod control;
 pub mod fresh;
 pub mod replies;
 pub mod status;

@@ -134,8 +134,14 @@ returns-21 c =
 returns-22 : tie.Need-returns-22
 unfolding performOf
 returns-22 c =
+    let c1 = c .before in let c2 = c1 .before in let c3 = c2 .before in let c4 = c3 .before in let c5 = c4 .before in let c6 = c5 .before in
+    rw (← c6 .applied .ensures, c3 .action16 .given .1, ← c1 .movec .ensures, ← c .completed16 .ensures)
+
+returns-23 : tie.Need-returns-23
+unfolding performOf
+returns-23 c =
     let c1 = c .before in let c2 = c1 .before in let c3 = c2 .before in let c4 = c3 .before in let c5 = c4 .before in
-    rw (← c5 .applied .ensures, c2 .action16 .given .1, ← c .refusal .ensures)
+    rw (← c5 .applied .ensures, c2 .action17 .given .1, ← c .refusal .ensures)
 
 pub perform-spec : {M : Type 1} → statement M
 perform-spec =
@@ -212,6 +218,9 @@ perform-spec =
     (λ c κs. search needs)
     (λ c. search needs)
     (λ c κs. search needs)
+    (λ c κs. search needs)
+    (λ c. search needs)
+    (λ c κs. search needs)
     returns
     (λ c. search needs)
     returns-2
@@ -242,4 +251,5 @@ perform-spec =
     returns-19
     returns-20
     returns-21
-    returns-22)
+    returns-22
+    returns-23)
