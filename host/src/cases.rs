@@ -226,6 +226,16 @@ pub fn memory(r: &mut Random, s: &State, len: u32) -> Vec<u8> {
     mem
 }
 
+/// The second word of MOVEC: any register, and mostly CACR or VBR.
+pub fn control(r: &mut Random) -> u16 {
+    let number = match r.below(5) {
+        0 | 1 => 0x002,
+        2 | 3 => 0x801,
+        _ => r.word() & 0xFFF,
+    };
+    (r.below(16) as u16) << 12 | number
+}
+
 /// The word at PC and extension words that mostly lead inside.
 pub fn write_code(r: &mut Random, mem: &mut [u8], pc: u32, op: u16) {
     put(mem, pc, &op.to_be_bytes());
@@ -260,6 +270,9 @@ pub fn write_code(r: &mut Random, mem: &mut [u8], pc: u32, op: u16) {
     if op == 0x40E7 && r.of_100(80) {
         words[0] = 0x46FC;
     }
+    if op & 0xFFFE == 0x4E7A {
+        words[0] = control(r);
+    }
     for (i, w) in words.iter().enumerate() {
         put(mem, pc.wrapping_add(2 + 2 * i as u32), &w.to_be_bytes());
     }
@@ -274,11 +287,11 @@ pub fn aimed(r: &mut Random, op: u16, supervisor: bool) -> (State, Vec<u8>) {
 
 /// A word that belongs to a row more often than not.
 pub fn likely(r: &mut Random) -> u16 {
-    const COMMON: [u16; 44] = [
+    const COMMON: [u16; 46] = [
         0x2000, 0x2018, 0x20C0, 0x2080, 0x1018, 0x3028, 0x7000, 0x7180, 0xD080, 0x9080, 0xB080, 0xC080, 0xE088, 0xE1A8,
         0x5280, 0x5388, 0x6602, 0x6700, 0x60FE, 0x6104, 0x4E71, 0x4E75, 0x4E73, 0x4E40, 0x4A80, 0x4280, 0x4480, 0x4080,
         0x41E8, 0x4840, 0x48D0, 0x4CD0, 0x4C00, 0x4C40, 0xA000, 0xA098, 0xA100, 0xA180, 0xA900, 0x4E90,
-        0x8080, 0x8190, 0x80C1, 0x81C1,
+        0x8080, 0x8190, 0x80C1, 0x81C1, 0x4E7A, 0x4E7B,
     ];
     let base = r.pick(&COMMON);
     match r.below(8) {
@@ -314,13 +327,23 @@ pub fn tame(r: &mut Random) -> u16 {
     }
 }
 
-/// A memory of tame or likely words from `from` on.
+/// A memory of tame or likely words from `from` on, MOVEC among them.
 pub fn program(r: &mut Random, mem: &mut [u8], from: u32) {
     let mut at = from;
     let share = r.pick(&[0, 90, 98]);
     while (at as usize) < mem.len() {
-        let op = if r.of_100(share) { tame(r) } else { likely(r) };
-        let words: &[u16] = if op & 0xF100 == 0xA000 { &[op, r.word()] } else { &[op] };
+        let op = if r.of_100(2) {
+            r.pick(&[0x4E7A, 0x4E7B])
+        } else if r.of_100(share) {
+            tame(r)
+        } else {
+            likely(r)
+        };
+        let words: &[u16] = match op {
+            0x4E7A | 0x4E7B => &[op, control(r)],
+            _ if op & 0xF100 == 0xA000 => &[op, r.word()],
+            _ => &[op],
+        };
         for w in words {
             put(mem, at, &w.to_be_bytes());
             at = at.wrapping_add(2);

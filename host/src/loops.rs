@@ -54,11 +54,28 @@ fn with(op: u16, o: Operand) -> Vec<u16> {
     words
 }
 
-/// One instruction. What it sets is D0 to D6 or A5, or memory.
+/// What ends a run: HALT, STOP, or a read that is not inside.
+pub fn ending(r: &mut Random) -> Vec<u16> {
+    r.pick(&[&[0x4AC8u16][..], &[0x4E72, 0x2700], &[0x4A38, 0x8000]]).to_vec()
+}
+
+/// MOVEC: CACR or VBR to D0 to D6 or A5, a data register to CACR, or an address register that is in use to VBR, which is then 0; now
+/// and then a data register.
+fn movec(r: &mut Random) -> Vec<u16> {
+    let (dn, an) = ((r.below(7) as u16) << 12, (8 + r.below(5) as u16) << 12);
+    match r.below(16) {
+        0..=6 => vec![0x4E7A, r.pick(&[dn, dn, 0xD000]) | r.pick(&[0x002, 0x801])],
+        7..=10 => vec![0x4E7B, dn | 0x002],
+        11..=14 => vec![0x4E7B, an | 0x801],
+        _ => vec![0x4E7B, dn | 0x801],
+    }
+}
+
+/// One instruction. What it sets is D0 to D6 or A5, memory, or a control register.
 fn instruction(r: &mut Random) -> Vec<u16> {
     let dn = r.below(7) as u16;
     let quick = (r.below(8) as u16) << 9;
-    match r.below(41) {
+    match r.below(42) {
         0..=3 => {
             let (line, bytes) = r.pick(&[(0x1000u16, 1u32), (0x2000, 4), (0x2000, 4), (0x3000, 2)]);
             let (from, to) = (source(r, bytes), place(r));
@@ -105,11 +122,12 @@ fn instruction(r: &mut Random) -> Vec<u16> {
         37 => vec![0xA000 | dn << 9 | r.word() & 0x80 | r.below(7) as u16, r.word() & 0x0FD0],
         38 => vec![r.pick(&[0xA1C0u16, 0xA180, 0xA900]) | dn],
         39 => with(r.pick(&[0x80C0u16, 0x81C0]) | dn << 9, source(r, 2)),
+        40 => movec(r),
         _ => vec![r.pick(&[0x4E71u16, 0x4E40, 0x51FC, 0x4AC0])],
     }
 }
 
-/// A state and a memory: 300 turns of a loop, each an entry to a subroutine and some instructions, and then a word that ends the run.
+/// A state and a memory: 300 turns of a loop, each an entry to a subroutine and some instructions, and then what ends the run.
 pub fn mixed(r: &mut Random) -> (State, Vec<u8>) {
     let mut s = State::fresh();
     s.sr = 0x2700;
@@ -137,7 +155,7 @@ pub fn mixed(r: &mut Random) -> (State, Vec<u8>) {
     words.push(0x5387);
     let turn = words.len() as u16;
     words.extend([0x6600, 0u16.wrapping_sub(2 * turn + 2)]);
-    words.push(r.pick(&[0x4AC8, 0x4E7A, 0x4E7B]));
+    words.extend(ending(r));
     words[call as usize + 1] = 2 * (words.len() as u16 - call) - 2;
     for _ in 0..r.below(4) {
         words.extend(instruction(r));

@@ -20,11 +20,14 @@ const LOOPS: [(&str, &[u8]); 5] = [
     ("dot-words", include_bytes!("../programs/dot-words.image")),
     ("compiled", include_bytes!("../programs/compiled.image")),
 ];
-const ENDING: [(&str, &[u8]); 2] = [
-    ("segregate-5208", include_bytes!("../programs/segregate-5208.image")),
-    ("segregate-54455", include_bytes!("../programs/segregate-54455.image")),
-];
 const SEGREGATE: &str = include_str!("../programs/segregate.answer");
+const START: &str = include_str!("../programs/start.answer");
+/// With their known answers.
+const ENDING: [(&str, &[u8], &str); 3] = [
+    ("segregate-5208", include_bytes!("../programs/segregate-5208.image"), SEGREGATE),
+    ("segregate-54455", include_bytes!("../programs/segregate-54455.image"), SEGREGATE),
+    ("start-handlers", include_bytes!("../programs/start-handlers.image"), START),
+];
 
 fn registers(text: &str) -> [u32; 2] {
     let mut words = text.split_whitespace().map(|w| u32::from_str_radix(w, 16).expect("an answer is two longs"));
@@ -33,9 +36,9 @@ fn registers(text: &str) -> [u32; 2] {
 
 /// The programs whose images are kept: those that loop, then those that end.
 pub fn kept() -> Vec<Program> {
-    let of = |(name, image), answer| Program { name, image: Cow::Borrowed(image), memory: MEMORY, answer };
-    let ending = ENDING.map(|p| of(p, Some(registers(SEGREGATE))));
-    LOOPS.map(|p| of(p, None)).into_iter().chain(ending).collect()
+    let of = |name, image, answer| Program { name, image: Cow::Borrowed(image), memory: MEMORY, answer };
+    let ending = ENDING.map(|(name, image, answer)| of(name, image, Some(registers(answer))));
+    LOOPS.map(|(name, image)| of(name, image, None)).into_iter().chain(ending).collect()
 }
 
 /// The program that programs/zlib has made in a folder, where it is there.

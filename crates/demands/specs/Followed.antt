@@ -47,7 +47,7 @@ pub record StepsFollowRows : Type 0 where
   pub follows : (s : Cpu) (l : Lent) → Bytes (l .storage) → Fetches s l
       → let op : ℕ = numberAt (memoryOf l) (s .pc) Word in
       Followed s l op (rowOf op)
-  pub done-fetches : (s : Cpu) (l : Lent) → Bytes (l .storage) → step s l .stepped .reply ≡ Done → Fetches s l
+  pub done-fetches : (s : Cpu) (l : Lent) → step s l .stepped .reply ≡ Done → Fetches s l
 
 -- ---- the proof
 
@@ -71,8 +71,8 @@ follows s l all f =
           (steps.fetched (s .r) (s .pc) (s .sr) (s .other) (s .emac) m op (f .in-memory) refl ∙ sym (of-row (s .r) (s .pc) (s .sr) (s .other) (s .emac) m op));
     }
 
-done-fetches : (s : Cpu) (l : Lent) → Bytes (l .storage) → step s l .stepped .reply ≡ Done → Fetches s l
-done-fetches s l all done =
+done-fetches : (s : Cpu) (l : Lent) → step s l .stepped .reply ≡ Done → Fetches s l
+done-fetches s l done =
     let m : Memory = memoryOf l in
     let h : Ready s l × ((s .stopped ≡ false) × (SomeOutside m (accesses s m) → ⊥)) = reply-0 .step-0 s l .0 (ap numberOf done) in
     record { ready = h .0; awake = h .1 .0; in-memory = steps.stepped s l done .fetch }

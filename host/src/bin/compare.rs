@@ -1,6 +1,6 @@
 //! `compare ROUNDS SEED`: every call of the archive against the original, on directed and random
 //! cases. Reply, vector or count, the whole block and the whole memory must be equal. Repeatable:
-//! the same rounds and seed make the same cases. Exit 1 on a difference.
+//! the same rounds and seed make the same cases. Exit 1 on a difference, or where a kind was missed.
 
 #![no_main]
 
@@ -22,6 +22,9 @@ mod oracle;
 mod divides;
 #[path = "../loops.rs"]
 mod loops;
+#[path = "../movec.rs"]
+#[allow(dead_code)]
+mod movec;
 #[path = "../programs.rs"]
 mod programs;
 #[path = "../random.rs"]
@@ -58,12 +61,18 @@ struct Compare {
     divided: [BTreeSet<u16>; 3],
     /// Kinds of word products that a step has summed without an overflow, with one upwards and with one downwards.
     summed: [BTreeSet<words::Kind>; 3],
+    /// Kinds of MOVEC that a step has answered, and trips that came to their end.
+    moved: BTreeSet<movec::Kind>,
+    gone: BTreeSet<movec::Trip>,
+    /// Steps of MOVEC whose expected answer is the paper's and not the original's.
+    by_paper: u64,
     start: Instant,
     said: u64,
 }
 
 impl Compare {
-    fn check(&mut self, family: &'static str, case: Case) {
+    /// Compares the two sides on a case; gives the reply that was expected.
+    fn check(&mut self, family: &'static str, case: Case) -> Reply {
         let want = case.expected(&mut self.oracle);
         let got = case.got();
         self.cases += 1;
@@ -77,6 +86,10 @@ impl Compare {
             if let Some((kind, overflow)) = words::summed(&case, &want) {
                 self.summed[overflow].insert(kind);
             }
+        }
+        if let Some(kind) = movec::answered(&case, &want) {
+            self.moved.insert(kind);
+            self.by_paper += State::from_block(&case.block).is_ok_and(|s| oracle::difference_60(&s, &case.mem)) as u64;
         }
         match case.call {
             Call::Step if want.value != 0 => *self.vectors.entry(want.value).or_insert(0) += 1,
@@ -107,6 +120,7 @@ impl Compare {
             self.said = self.start.elapsed().as_secs() / 10;
             println!("{} s: {} cases, {} differ", self.start.elapsed().as_secs(), self.cases, self.differ);
         }
+        want.reply
     }
 
     /// Whether `t` differs as `case` does: the same word and the same two replies.
@@ -336,6 +350,7 @@ fn overlaps(c: &mut Compare, r: &mut Random) {
             (0x80C0, 5),
             (0x81C0, 5),
             (0x4E68, 8),
+            (0x4E7B, 8),
         ]);
         let (supervisor, near) = (r.of_100(30), r.below(14));
         let mut s = state(r, supervisor);
@@ -433,6 +448,20 @@ fn word_products(c: &mut Compare, r: &mut Random) {
     });
 }
 
+/// Every kind of MOVEC, as a step and as a run, and every trip.
+fn control_registers(c: &mut Compare, r: &mut Random) {
+    movec::each(r, |s, mem| {
+        c.check("control registers, run", Case::of(Call::Run(1), &s, mem.clone()));
+        c.check("control registers", Case::of(Call::Step, &s, mem));
+    });
+    for trip in movec::Trip::all() {
+        let (s, mem) = movec::trip(r, trip);
+        if c.check("trips to user mode", Case::of(Call::Run(64), &s, mem)) == Reply::Stopped {
+            c.gone.insert(trip);
+        }
+    }
+}
+
 fn runs(c: &mut Compare, r: &mut Random) {
     for i in 0..8192u32 {
         let supervisor = r.of_100(70);
@@ -480,7 +509,7 @@ fn long_runs(c: &mut Compare, r: &mut Random) {
         // A divide by zero comes back.
         put(&mut mem, s.vbr + 4 * 5, &0x20u32.to_be_bytes());
         put(&mut mem, 0x20, &0x4E73u16.to_be_bytes());
-        // Words on registers, then SUBQ.L #1,D7, BNE to the first, and a word that ends the run.
+        // Words on registers, then SUBQ.L #1,D7, BNE to the first, and what ends the run.
         let n = 1 + r.below(12);
         for k in 0..n {
             let op = r.pick(&[
@@ -493,7 +522,9 @@ fn long_runs(c: &mut Compare, r: &mut Random) {
         let end = s.pc + 2 * n;
         put(&mut mem, end, &0x5387u16.to_be_bytes());
         put(&mut mem, end + 2, &(0x6600 | (0u32.wrapping_sub(2 * n + 4) & 0xFF) as u16).to_be_bytes());
-        put(&mut mem, end + 4, &r.pick(&[0x4AC8u16, 0x4E7A, 0x4E7B]).to_be_bytes());
+        for (k, w) in loops::ending(r).iter().enumerate() {
+            put(&mut mem, end + 4 + 2 * k as u32, &w.to_be_bytes());
+        }
         // A core that has stopped takes the largest budget: any other could run on where the two differ.
         s.stopped = i % 16 == 0;
         let budget = if s.stopped { u32::MAX } else if i % 2 == 0 { 20_000 } else { r.below(800) };
@@ -794,6 +825,9 @@ pub extern "C" fn main() -> i32 {
         completed: [vec![false; 0x10000], vec![false; 0x10000]],
         divided: Default::default(),
         summed: Default::default(),
+        moved: BTreeSet::new(),
+        gone: BTreeSet::new(),
+        by_paper: 0,
         start: Instant::now(),
         said: 0,
     };
@@ -811,6 +845,7 @@ pub extern "C" fn main() -> i32 {
         memory_edges(&mut c, &mut r);
         divides(&mut c, &mut r);
         word_products(&mut c, &mut r);
+        control_registers(&mut c, &mut r);
         runs(&mut c, &mut r);
         long_runs(&mut c, &mut r);
         mixed_loops(&mut c, &mut r);
@@ -828,8 +863,7 @@ pub extern "C" fn main() -> i32 {
     let vectors: Vec<String> = c.vectors.iter().map(|(v, n)| format!("{v}: {n}")).collect();
     println!("vectors entered by steps: {}; steps done in runs: {}", vectors.join(", "), c.steps_in_runs);
     let [user, supervisor] = [0, 1].map(|i| c.completed[i].iter().filter(|&&b| b).count());
-    let carried = (0..=0xFFFF).filter(|&op| !oracle::never_carried(op)).count();
-    println!("words completed at least once: {user} as user, {supervisor} as supervisor, of {carried} that do not always answer 5");
+    println!("words completed at least once: {user} as user, {supervisor} as supervisor, of 65536");
     let [quotient, overflow, zero] = [0, 1, 2].map(|i| c.divided[i].len());
     println!("words of DIVU.W and DIVS.W completed with a quotient: {quotient}, with an overflow: {overflow}, by zero: {zero}, of 1024");
     let [plain, up, down] = [0, 1, 2].map(|i| c.summed[i].len());
@@ -840,6 +874,18 @@ pub extern "C" fn main() -> i32 {
     );
     if plain < kinds {
         println!("{} kinds of word products were never summed", kinds - plain);
+    }
+    let (moved, trips) = (movec::Kind::all().count(), movec::Trip::all().count());
+    println!(
+        "MOVEC answered: {} of {moved} kinds (way, number, register, mode; second word not inside), {} steps by difference 60 and not by \
+         the original; trips to user mode and back that came to their end: {} of {trips}",
+        c.moved.len(),
+        c.by_paper,
+        c.gone.len()
+    );
+    let missed = moved - c.moved.len() + trips - c.gone.len();
+    if missed > 0 {
+        println!("{missed} kinds of MOVEC, or trips, were never done");
     }
     if c.differ > 0 {
         println!("differing, by call, word and the two replies:");
@@ -863,5 +909,5 @@ pub extern "C" fn main() -> i32 {
         }
     }
     println!("{} cases, {} differ", c.cases, c.differ);
-    (c.differ > 0 || plain < kinds) as i32
+    (c.differ > 0 || plain < kinds || missed > 0) as i32
 }

@@ -10,11 +10,11 @@ mod random;
 
 use random::Random;
 
-/// Functions that no compared call reaches: the original's loops, hooks and compiled code, and what is not carried.
-const OUTSIDE: [&str; 22] = [
+/// Functions that no compared call reaches: the original's loops, hooks, cache and compiled code. In the two of MOVEC a line for further
+/// control registers is not reached either (difference 60), and CACR's old bit 5 is not used: a change there is no break.
+const OUTSIDE: [&str; 20] = [
     "new", "set_hook", "hooked", "strict_fault", "icount", "run", "run_block", "run_compiled", "jit_async", "jit_stats", "compile_block",
-    "run_ops_slice", "run_ops", "run_ops_loop", "step", "movec_write", "cache_sync", "movec_read", "acc_phys",
-    "acc_get", "default", "fmt",
+    "run_ops_slice", "run_ops", "run_ops_loop", "step", "cache_sync", "acc_phys", "acc_get", "default", "fmt",
 ];
 
 const SWAPS: [(&str, &str); 24] = [

@@ -92,24 +92,24 @@ fn original(c: &mut Cpu, budget: u32) -> u32 {
 fn turn(cpu: &mut Cpu, program: &Program, steps: u32) -> [f64; 3] {
     let name = program.name;
     let (start, memory, _) = load(program);
-    let (mut block, mut mem) = (start.to_block(), memory.clone());
-    let single = steps / 10;
+    let (budget, end) = if program.answer.is_some() { (u32::MAX, Reply::Stopped) } else { (steps, Reply::Done) };
+    set(cpu, &start, &memory);
+    let clock = now();
+    let done = original(cpu, budget);
+    let original = (now() - clock) / done as f64;
+
+    let (mut block, mut mem) = (start.to_block(), memory);
+    let single = done / 10;
     let clock = now();
     for _ in 0..single {
         assert_eq!(host::step(&mut block, &mut mem).0, Reply::Done, "{name}: the archive refused a step");
     }
     let step = (now() - clock) / single as f64;
 
-    let (budget, end) = if program.answer.is_some() { (u32::MAX, Reply::Stopped) } else { (steps, Reply::Done) };
     let clock = now();
     let (reply, rest) = host::run(&mut block, &mut mem, budget - single);
     let run = (now() - clock) / rest as f64;
     assert_eq!(reply, end, "{name}: how the archive's run ended");
-
-    set(cpu, &start, &memory);
-    let clock = now();
-    let done = original(cpu, budget);
-    let original = (now() - clock) / done as f64;
 
     assert_eq!(single + rest, done, "{name}: the steps of the archive and of the original");
     assert_eq!(State::from_block(&block), Ok(get(cpu)), "{name}: the states after {done} steps");

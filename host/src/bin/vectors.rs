@@ -21,6 +21,9 @@ mod fast;
 #[path = "../oracle/jit.rs"]
 #[allow(dead_code)]
 mod jit;
+#[path = "../movec.rs"]
+#[allow(dead_code)]
+mod movec;
 #[path = "../oracle/oracle.rs"]
 mod oracle;
 #[path = "../random.rs"]
@@ -32,7 +35,7 @@ mod witnesses;
 mod words;
 include!(concat!(env!("OUT_DIR"), "/original.rs"));
 
-use cases::{accumulator, data, edge, put, same, tame, Call, Case, Random};
+use cases::{accumulator, control, data, edge, put, same, tame, Call, Case, Random};
 use host::{Reply, State};
 use oracle::Oracle;
 use std::collections::BTreeMap;
@@ -190,6 +193,10 @@ impl Vectors {
         if self.r.of_100(30) {
             s.sr ^= 0x2000;
         }
+        // Whether there are two stack pointers.
+        if self.r.of_100(10) {
+            s.cacr ^= 0x20;
+        }
         if op >> 12 == 0xA && self.r.of_100(60) {
             let macsr = self.r.below(0x1000);
             if macsr & 0x60 != s.macsr & 0x60 {
@@ -230,6 +237,9 @@ impl Vectors {
         }
         if op == 0x40E7 && r.of_100(80) {
             words[0] = 0x46FC;
+        }
+        if op & 0xFFFE == 0x4E7A {
+            words[0] = control(r);
         }
         put(&mut mem, pc, &op.to_be_bytes());
         for (i, w) in words.iter().enumerate() {
@@ -325,7 +335,11 @@ impl Vectors {
                 *w = tame(&mut self.r);
             }
             if i % 5 == 0 {
-                words[(i / 5 % 7) as usize] = self.r.pick(&[0x4AC8, 0x4E72, 0x4E7B, 0x4E40]);
+                let (k, op) = ((i / 5 % 7) as usize, self.r.pick(&[0x4AC8, 0x4E72, 0x4E7B, 0x4E40]));
+                words[k] = op;
+                if op == 0x4E7B {
+                    words[k + 1] = control(&mut self.r);
+                }
             }
             for (k, w) in words.iter().enumerate() {
                 put(&mut mem, s.pc + 2 * k as u32, &w.to_be_bytes());
@@ -348,6 +362,24 @@ impl Vectors {
             let case = self.case(Call::Step, &s, &mem);
             let answer = case.expected(&mut self.oracle);
             assert!(answer.reply == Reply::Done && answer.value == 0, "a product of words that does not complete");
+            self.add(&case);
+        }
+    }
+
+    /// Steps of MOVEC, which complete but for those whose second word is not inside.
+    fn movec(&mut self) {
+        for (i, kind) in movec::Kind::some().enumerate() {
+            let mut s = self.aim(0x4E7A);
+            let value = movec::VALUES[i % movec::VALUES.len()];
+            let code = movec::ready(&mut self.r, &mut s, kind, value);
+            if !kind.is_inside() {
+                s.pc = MEMORY as u32 - 2 - self.r.below(2);
+            }
+            let mut mem = self.code(s.pc, code[0]);
+            put(&mut mem, s.pc + 2, &code[1].to_be_bytes());
+            let case = self.case(Call::Step, &s, &mem);
+            let answer = case.expected(&mut self.oracle);
+            assert!(movec::answered(&case, &answer) == Some(kind), "a MOVEC that does not complete");
             self.add(&case);
         }
     }
@@ -459,6 +491,7 @@ pub extern "C" fn main() -> i32 {
     v.entries(288);
     v.runs(140);
     v.words();
+    v.movec();
     v.refused(216);
     let sampled = v.records;
     if v.witnesses() > 0 {

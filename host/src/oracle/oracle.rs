@@ -1,13 +1,17 @@
 //! What each call must answer: the original's `execute`, `exception`, `interrupt` and `rte`, with the
-//! paper's replies around them.
+//! paper's replies around them. In one place the answer is the paper's alone: `difference_60`.
 
 use crate::bus::Bus;
 use crate::cpu::Cpu;
 use host::{Reply, State, MEMORY_LIMIT};
 
-/// MOVEC, which answers 5 whatever follows it.
-pub fn never_carried(op: u16) -> bool {
-    op == 0x4E7A || op == 0x4E7B
+/// Difference 60: MOVEC as supervisor, its second word inside, of a number that is neither CACR's nor VBR's. The core has no such
+/// register and enters vector 4; the original keeps a long for each number, and the other stack pointer for 0x800. So it is not
+/// asked there. Its own answers to a second word that is not inside, and to a user, stand.
+pub fn difference_60(s: &State, mem: &[u8]) -> bool {
+    let word = |at: u32| mem.get(at as usize..at as usize + 2).map(|b| u16::from_be_bytes([b[0], b[1]]));
+    let (Some(0x4E7A | 0x4E7B), Some(second)) = (word(s.pc), word(s.pc.wrapping_add(2))) else { return false };
+    s.sr & 0x2000 != 0 && !matches!(second & 0x0FFF, 0x002 | 0x801)
 }
 
 pub struct Oracle {
@@ -81,22 +85,17 @@ impl Oracle {
         Ok(self.get())
     }
 
-    /// Whether the word at PC is inside and answers 5.
-    fn not_carried(s: &State, mem: &[u8]) -> bool {
-        let at = s.pc as usize;
-        mem.get(at..at + 2).is_some_and(|b| never_carried(u16::from_be_bytes([b[0], b[1]])))
-    }
-
     /// A step on the memory that the original has.
     fn one(&mut self, s: &State) -> Result<(State, u8), Reply> {
         if s.stopped {
             return Err(Reply::Stopped);
         }
-        if Self::not_carried(s, &self.cpu.bus.mem) {
-            return Err(Reply::NotCarried);
-        }
         self.cpu.exc_counts = [0; 256];
-        let after = self.perform(s, |c| c.execute())?;
+        let after = if difference_60(s, &self.cpu.bus.mem) {
+            self.perform(s, |c| c.exception(4, s.pc, None))?
+        } else {
+            self.perform(s, |c| c.execute())?
+        };
         let entered = self.cpu.exc_counts.iter().position(|&n| n != 0).unwrap_or(0);
         Ok((after, entered as u8))
     }
