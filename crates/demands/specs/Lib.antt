@@ -38,6 +38,8 @@ pub mod Admits
 pub mod Units
 pub mod Determined
 pub mod HostSentences
+pub mod CutRuns
+pub mod CutCalls
 pub mod RecordLaws
 pub mod SRecords
 pub mod WordOperands

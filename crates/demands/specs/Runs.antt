@@ -194,7 +194,7 @@ run-first : (budget : ℕ) (s : Cpu) (l : Lent) → isDone (firstRefusal s l) �
 unfolding run
 run-first budget s l h = rw h
 
-run-steps : (budget : ℕ) (s : Cpu) (l : Lent) → Ready s l → run budget s l ≡ steps budget s l
+pub run-steps : (budget : ℕ) (s : Cpu) (l : Lent) → Ready s l → run budget s l ≡ steps budget s l
 unfolding run
 run-steps budget s l h = rw h
 
