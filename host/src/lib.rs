@@ -4,13 +4,17 @@
 //! slice from address 0, big-endian, of at most 16,777,216 bytes. After [`Reply::Done`] the block
 //! holds the new state (in a run also after a refused step: the state after the steps done);
 //! otherwise block and memory are as they were. [`srecord_read`] and [`srecord_write`] fill a memory
-//! from Motorola S-records and write them of it; they take no block.
+//! from Motorola S-records and write them of it; they take no block. [`Voyage`] is a run that is made
+//! in parts, and saved to disk and restored between them.
 //!
 //! ```
 #![doc = include_str!("example.rs")]
 //! ```
 
 mod ffi;
+mod voyage;
+
+pub use voyage::{Part, Voyage, Whole};
 
 /// The bytes of a state block.
 pub const BLOCK: usize = 128;
