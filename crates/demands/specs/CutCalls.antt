@@ -58,9 +58,13 @@ unfoldable pub inCalls : List ℕ → Lent → Called → Called
 inCalls [] l c = c
 inCalls (m ∷ ms) l c = inCalls ms l (joinedCalls m c (calledOn m l c))
 
--- a reply is given that comes before the run begins
+-- a reply that comes before the run begins
+abbrev pub FirstReply : ℕ → Type 0
+FirstReply n = OneOf (1 ∷ 2 ∷ 8 ∷ 9 ∷ []) n
+
+-- such a reply is given
 abbrev pub GivenFirst : Called → Type 0
-GivenFirst c = OneOf (1 ∷ 2 ∷ 8 ∷ 9 ∷ []) (replyIn c)
+GivenFirst c = FirstReply (replyIn c)
 
 -- the numbers of the block and of memory are bytes, as their types say
 pub record CutCalls : Type 0 where
@@ -82,6 +86,10 @@ pub record CutCalls : Type 0 where
       (runOn b l n ≡ refused) × (calledOn m l (runOn b l n) ≡ refused)
   -- a run that was refused or is stopped has come to its end: no further budget changes anything
   pub at-its-end : (n m : ℕ) (b : List ℕ) (l : Lent) → (replyIn (runOn b l n) ≡ 0 → ⊥) → runOn b l (n + m) ≡ runOn b l n
+  -- and a call that tries a step again answers its reply again, and leaves the block and memory as they are
+  pub tried-again : (n m : ℕ) (b : List ℕ) (l : Lent) → Bytes b → Bytes (l .storage) → (replyIn (runOn b l n) ≡ 0 → ⊥) → 1 ≤ m
+      → let c : Called = runOn b l n in
+      calledOn m l c ≡ called (replyIn c) (c .block) (c .storage)
   -- any list of calls
   pub any-calls : (n : ℕ) (ms : List ℕ) (b : List ℕ) (l : Lent) → Bytes b → Bytes (l .storage) → inCalls ms l (runOn b l n) ≡ runOn b l (n + total ms)
 
@@ -198,7 +206,7 @@ module _ (b : List ℕ) (l : Lent) (s : Cpu) (held : Holds b s) where
 
 refused-by : (l : Lent) (short version whole says : Bool) (s : Cpu)
     → let x : Reply = cond short (notRead WrongLength) (cond version (cond whole (cond says (record { reply = Done; cpu = s }) (notRead NotAdmitted)) (notRead WrongLength)) (notRead WrongVersion)) .reply in
-    isDone x ≡ false → OneOf (1 ∷ 2 ∷ 8 ∷ 9 ∷ []) (numberOf (blockReply x l))
+    isDone x ≡ false → FirstReply (numberOf (blockReply x l))
 unfolding blockReply
 refused-by l true version whole says s h = inr (inr (inr (inl refl)))
 refused-by l false false whole says s h = inr (inr (inl refl))
@@ -206,7 +214,7 @@ refused-by l false true false says s h = inr (inr (inr (inl refl)))
 refused-by l false true true false s h = ⊎-elim (λ e. inl e) (⊎-elim (λ e. inr (inl e)) (λ x. absurd x)) (lent-of l)
 refused-by l false true true true s h = absurd (false≢true (sym h))
 
-block-given : (b : List ℕ) (l : Lent) → isDone (readBlock b .reply) ≡ false → OneOf (1 ∷ 2 ∷ 8 ∷ 9 ∷ []) (numberOf (blockReply (readBlock b .reply) l))
+block-given : (b : List ℕ) (l : Lent) → isDone (readBlock b .reply) ≡ false → FirstReply (numberOf (blockReply (readBlock b .reply) l))
 unfolding readBlock
 block-given b l = refused-by l (ltb (length b) 5) (eqb (valueAt b 0 1) 1) (eqb (length b) 128 && eqb (valueAt b 1 4) 123) (saysAdmitted b) (stateAt b)
 
@@ -245,10 +253,10 @@ module _ (b : List ℕ) (l : Lent) where
           low : n ≤ 4
           low = laws.at-most 4 n (0 ∷ 1 ∷ 2 ∷ 3 ∷ 4 ∷ []) refl (exact.no-others .run-of budget (read .cpu) l)
 
-          told : OneOf (1 ∷ 2 ∷ 8 ∷ 9 ∷ []) n
+          told : FirstReply n
           told = rw (run-left b l (read .cpu) (was-held e) budget, reply-left (run budget (read .cpu) l .ran .reply) (run budget (read .cpu) l .ran .count)) at g
 
-          few : OneOf (1 ∷ 2 ∷ 8 ∷ 9 ∷ []) n → OneOf (1 ∷ 2 ∷ []) n
+          few : FirstReply n → OneOf (1 ∷ 2 ∷ []) n
           few (inl z) = inl z
           few (inr (inl z)) = inr (inl z)
           few (inr (inr (inl z))) = absurd (omega (arith, z, low))
@@ -297,6 +305,13 @@ module _ (b : List ℕ) (l : Lent) where
       same-count : (m : ℕ) → countIn c + countIn (d m) ≡ countIn (runOn b l (n + m))
       same-count m = sym (count-joined m (c .answer) (d m .answer) (countIn c + countIn (d m))) ∙ ap countIn (one-call m)
 
+      tried-again : (m : ℕ) → (replyIn c ≡ 0 → ⊥) → 1 ≤ m → d m ≡ called (replyIn c) (c .block) (c .storage)
+      tried-again zero refused h = absurd (omega arith)
+      tried-again (suc m) refused h =
+          let e : joinedCalls (suc m) c (d (suc m)) ≡ c = one-call (suc m) ∙ at-its-end (suc m) refused in
+          let alone : d (suc m) .answer ≡ replyIn c = omega (arith, ap (λ (x : Called). x .answer) e) in
+          rw (alone, ap (λ (x : Called). x .block) e, ap (λ (x : Called). x .storage) e)
+
       otherwise-0 : (GivenFirst c → ⊥) → replyIn (d 0) ≡ 0
       otherwise-0 not-given = by (isDone (read .reply)) refl
         where
@@ -334,5 +349,6 @@ cut-calls = record {
   otherwise-0 = λ n b l bytes all. otherwise-0 b l n bytes all;
   refused-first = λ n m b l. refused-first b l n m;
   at-its-end = λ n m b l. at-its-end b l n m;
+  tried-again = λ n m b l bytes all. tried-again b l n bytes all m;
   any-calls = λ n ms. any-calls ms n;
 }

@@ -81,6 +81,10 @@ pub record CutRuns : Type 0 where
       → (run n s l ≡ ended (firstRefusal s l) 0 s (l .storage)) × (goneOn m l (run n s l) ≡ ended (firstRefusal s l) 0 s (l .storage))
   -- a run that was refused or is stopped has come to its end: no further budget changes anything
   pub at-its-end : (n m : ℕ) (s : Cpu) (l : Lent) → NotZero (run n s l .ran .reply) → run (n + m) s l ≡ run n s l
+  -- and a part that tries a step again gives its reply again, with count 0, and leaves the state and memory as they are
+  pub tried-again : (n m : ℕ) (s : Cpu) (l : Lent) → NotZero (run n s l .ran .reply) → 1 ≤ m
+      → let r : RunOutcome = run n s l in
+      goneOn m l r ≡ ended (r .ran .reply) 0 (r .ran .cpu) (r .storage)
   -- an admitted state is stored and read back with 0, and the part after that is as before
   pub stored-between : (n m : ℕ) (s : Cpu) (l : Lent) (b : List ℕ) → Values s (l .storage) → admitted s ≡ true → length b ≡ 128
       → let r : RunOutcome = run n s l in
@@ -204,6 +208,13 @@ module _ (n : ℕ) (s : Cpu) (l : Lent) where
               (refused-again m (r .ran .count) (r .ran .cpu) (r .ran .cpu) (lentOn l (r .storage)) (r .storage) (r .ran .reply) refl refl e refused)
       by false h = rw (runs .first (n + m) s l h, runs .first n s l h)
 
+  tried-again : (m : ℕ) → NotZero (r .ran .reply) → 1 ≤ m → q m ≡ ended (r .ran .reply) 0 (r .ran .cpu) (r .storage)
+  tried-again zero refused h = absurd (omega arith)
+  tried-again (suc m) refused h =
+      let e : joined (suc m) r (q (suc m)) ≡ r = one-run (suc m) ∙ at-its-end (suc m) refused in
+      let none : q (suc m) .ran .count ≡ 0 = omega (arith, ap (λ (x : RunOutcome). x .ran .count) e) in
+      rw (none, ap (λ (x : RunOutcome). x .ran .reply) e, ap (λ (x : RunOutcome). x .ran .cpu) e, ap (λ (x : RunOutcome). x .storage) e)
+
   stored-between : (m : ℕ) (b : List ℕ) → Values s (l .storage) → admitted s ≡ true → length b ≡ 128
       → let t : Cpu = throughBlock b (r .ran .cpu) in
       (storeBlock (r .ran .cpu) b .reply ≡ Done) × (readBlock (storeBlock (r .ran .cpu) b .bytes) .reply ≡ Done) × (joined m r (run m t (lentOn l (r .storage))) ≡ run (n + m) s l)
@@ -228,6 +239,7 @@ cut-runs = record {
   otherwise-0 = otherwise-0;
   refused-first = λ n m s l. refused-first n s l m;
   at-its-end = λ n m s l. at-its-end n s l m;
+  tried-again = λ n m s l. tried-again n s l m;
   stored-between = λ n m s l. stored-between n s l m;
   any-parts = λ n ms. any-parts ms n;
 }
