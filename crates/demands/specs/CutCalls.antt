@@ -38,8 +38,8 @@ use Rattle.demands.specs.Steps.{none}
 use Rattle.demands.specs.Admits.{admits}
 use Rattle.demands.specs.TypedLaws.{keeps-typed}
 use Rattle.demands.specs.Host.{replyIn, number-small}
-use Rattle.demands.specs.HostSentences.{Holds}
-use Rattle.demands.specs.CutRuns.{Given1Or2, goneOn, lastReply, joined, total, stored-back, not-ready, cut-runs}
+use Rattle.demands.specs.HostSentences.{Holds, was-held, stored-back}
+use Rattle.demands.specs.CutRuns.{Given1Or2, goneOn, lastReply, joined, total, not-ready, cut-runs}
 
 -- how many steps the answer of a run says
 abbrev pub countIn : Called → ℕ
@@ -222,8 +222,8 @@ module _ (b : List ℕ) (l : Lent) where
   abbrev read : Answer
   read = readBlock b
 
-  was-held : isDone (read .reply) ≡ true → Holds b (read .cpu)
-  was-held e = ap (λ (x : Reply). record { reply = x; cpu = read .cpu }) (is-done (read .reply) e)
+  was-read : isDone (read .reply) ≡ true → Holds b (read .cpu)
+  was-read e = was-held b (ap numberOf (is-done (read .reply) e))
 
   -- a run is refused before it begins, whatever its budget, with the answer x
   abbrev Refused : ℕ → Type 0
@@ -236,7 +236,7 @@ module _ (b : List ℕ) (l : Lent) where
   run-refused : isDone (read .reply) ≡ true → isDone (firstRefusal (read .cpu) l) ≡ false → Refused (numberOf (firstRefusal (read .cpu) l))
   run-refused e h = (
     number-small (firstRefusal (read .cpu) l),
-    λ budget. run-left b l (read .cpu) (was-held e) budget ∙ rw (runs .first budget (read .cpu) l h, add-zero (numberOf (firstRefusal (read .cpu) l))),
+    λ budget. run-left b l (read .cpu) (was-read e) budget ∙ rw (runs .first budget (read .cpu) l h, add-zero (numberOf (firstRefusal (read .cpu) l))),
   )
 
   -- so it is where a reply is given that comes first
@@ -254,7 +254,7 @@ module _ (b : List ℕ) (l : Lent) where
           low = laws.at-most 4 n (0 ∷ 1 ∷ 2 ∷ 3 ∷ 4 ∷ []) refl (exact.no-others .run-of budget (read .cpu) l)
 
           told : FirstReply n
-          told = rw (run-left b l (read .cpu) (was-held e) budget, reply-left (run budget (read .cpu) l .ran .reply) (run budget (read .cpu) l .ran .count)) at g
+          told = rw (run-left b l (read .cpu) (was-read e) budget, reply-left (run budget (read .cpu) l .ran .reply) (run budget (read .cpu) l .ran .count)) at g
 
           few : FirstReply n → OneOf (1 ∷ 2 ∷ []) n
           few (inl z) = inl z
@@ -284,15 +284,15 @@ module _ (b : List ℕ) (l : Lent) where
         by false e = block-refused e .1 (n + m) ∙ sym (block-refused e .1 n)
         by true e =
             let o : RunOutcome = run n (read .cpu) l in
-            rw (run-left b l (read .cpu) (was-held e) (n + m), run-left b l (read .cpu) (was-held e) n)
-            (ap (left b) (cut-runs .at-its-end n m (read .cpu) l (λ z. refused (rw (run-left b l (read .cpu) (was-held e) n, reply-left (o .ran .reply) (o .ran .count)) z))))
+            rw (run-left b l (read .cpu) (was-read e) (n + m), run-left b l (read .cpu) (was-read e) n)
+            (ap (left b) (cut-runs .at-its-end n m (read .cpu) l (λ z. refused (rw (run-left b l (read .cpu) (was-read e) n, reply-left (o .ran .reply) (o .ran .count)) z))))
 
     module _ (bytes : Bytes b) (all : Bytes (l .storage)) where
       one-call : (m : ℕ) → joinedCalls m c (d m) ≡ runOn b l (n + m)
       one-call m = by (isDone (read .reply)) refl
         where
           by : (t : Bool) → isDone (read .reply) ≡ t → joinedCalls m c (d m) ≡ runOn b l (n + m)
-          by true e = held-call b l (read .cpu) (was-held e) bytes all n m
+          by true e = held-call b l (read .cpu) (was-read e) bytes all n m
           by false e =
               let x : ℕ = numberOf (blockReply (read .reply) l) in
               rw (block-refused e .1 n, block-refused e .1 m, block-refused e .1 (n + m), answer-refused m x (number-small (blockReply (read .reply) l)))
@@ -322,7 +322,7 @@ module _ (b : List ℕ) (l : Lent) where
               (reply-left (q .ran .reply) (q .ran .count) ∙ ap numberOf (cut-runs .otherwise-0 n (read .cpu) l not-1-or-2))
             where
               held : Holds b (read .cpu)
-              held = was-held e
+              held = was-read e
 
               o : RunOutcome
               o = run n (read .cpu) l

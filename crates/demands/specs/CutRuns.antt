@@ -25,14 +25,12 @@ use Rattle.manual.specs.Block.{readBlock, storeBlock}
 use Rattle.instructions.specs.Step.{step}
 use Rattle.instructions.specs.Run.{RunOutcome, ended, afterOne, steps, run}
 use Rattle.state.specs.FirstLaws.{first-kept, first-admitted}
-use Rattle.block.specs.Typed.{Typed}
-use Rattle.block.specs.ReadBack.{read-back}
 use Rattle.demands.specs.Exact.{OneOf, Ready, Values}
 use Rattle.demands.specs.ExactLaws as exact
 use Rattle.demands.specs.Refusals.{NotZero, is-not, is-refused, step-kept}
 use Rattle.demands.specs.Runs.{runs, run-steps}
 use Rattle.demands.specs.Admits.{admits}
-use Rattle.demands.specs.HostSentences.{Holds}
+use Rattle.demands.specs.HostSentences.{Holds, stored-back}
 use Rattle.demands.specs.TypedLaws.{keeps-typed}
 
 -- the next part: a run of m from the result of r
@@ -154,10 +152,6 @@ module _ (s : Cpu) (l : Lent) where
       by : OneOf (0 ∷ 1 ∷ 2 ∷ []) (numberOf (firstRefusal s l)) → OneOf (1 ∷ 2 ∷ []) (numberOf (firstRefusal s l))
       by (inl e) = absurd (is-not (firstRefusal s l) h e)
       by (inr w) = w
-
-pub stored-back : (s : Cpu) (b : List ℕ) → admitted s ≡ true → Typed s → length b ≡ 128 → (storeBlock s b .reply ≡ Done) × Holds (storeBlock s b .bytes) s
-unfolding storeBlock
-stored-back s b h typed long = rw (long, h) (refl, read-back s h typed)
 
 module _ (n : ℕ) (s : Cpu) (l : Lent) where
   abbrev r : RunOutcome

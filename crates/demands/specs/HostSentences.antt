@@ -12,6 +12,7 @@ use mathlib.Core.List.{List}
 use mathlib.Core.Logic.{inl}
 use native.Mathlib.Omega.{arith}
 use lib.Dec.{eqb}
+use lib.ListN.{length}
 use borrow.Author.Tests.{ne-eqb}
 use Rattle.manual.specs.declared.Cpu.{Cpu}
 use Rattle.manual.specs.declared.Level.{Level}
@@ -85,16 +86,19 @@ pub record HostSentences : Type 0 where
 
 -- ---- a block that was read, and is stored in
 
+pub stored-back : (s : Cpu) (b : List ℕ) → admitted s ≡ true → Typed s → length b ≡ 128 → (storeBlock s b .reply ≡ Done) × Holds (storeBlock s b .bytes) s
+unfolding storeBlock
+stored-back s b h typed long = rw (long, h) (refl, read-back s h typed)
+
 module _ (b : List ℕ) (e : numberOf (readBlock b .reply) ≡ 0) where
   was-done : readBlock b .reply ≡ Done
   was-done = done-is (readBlock b .reply) e
 
-  was-held : Holds b (readBlock b .cpu)
+  pub was-held : Holds b (readBlock b .cpu)
   was-held = ap (λ (x : Reply). record { reply = x; cpu = readBlock b .cpu }) was-done
 
   now-holds : (s : Cpu) → admitted s ≡ true → Typed s → Holds (storeBlock s b .bytes) s
-  unfolding storeBlock
-  now-holds s h typed = rw (exact.reply-8-and-9 .read-block-0 b .0 e .0 .0, h) (read-back s h typed)
+  now-holds s h typed = stored-back s b h typed (exact.reply-8-and-9 .read-block-0 b .0 e .0 .0) .1
 
   module _ (w : ℕ) (l : Lent) (o : Outcome) (d : numbered o ≡ 0) where
     -- what is left, all the tests being passed
