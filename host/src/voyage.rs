@@ -39,17 +39,18 @@ pub struct Whole {
 /// # What a save is
 ///
 /// A folder has the saves of one voyage, and one process at a time saves to it. Each save is a folder in
-/// it, named by a number, with three files:
+/// it, named by a number, with four files:
 ///
 /// | file | holds |
 /// |---|---|
 /// | `state` | the state block, 128 bytes |
 /// | `memory` | the memory's bytes |
 /// | `steps` | the number of steps done, in decimal, and LF |
+/// | `sum` | a checksum of the other three, 16 hexadecimal digits, and LF |
 ///
 /// The highest number counts. A save is written under its number and `.new`, and has its own name only
-/// when all of it is on the disk. So state and memory are always of the same moment. Names other than
-/// these are left alone.
+/// when all of it is on the disk. So state and memory are always of the same moment, and the sum tells
+/// where a copy of them is not. Names other than these are left alone.
 #[derive(Clone, Debug, PartialEq, Eq)]
 pub struct Voyage {
     block: [u8; BLOCK],
@@ -60,6 +61,7 @@ pub struct Voyage {
 const STATE: &str = "state";
 const MEMORY: &str = "memory";
 const STEPS: &str = "steps";
+const SUM: &str = "sum";
 /// What follows the number of a save that is not whole yet.
 const UNFINISHED: &str = ".new";
 
@@ -157,30 +159,44 @@ impl Voyage {
         Ok(())
     }
 
-    /// Writes the three files to a new folder, and waits until they are on the disk.
+    /// Writes the files to a new folder, and waits until they are on the disk.
     fn write(&self, folder: &Path) -> io::Result<()> {
         fs::create_dir(folder).map_err(naming(folder))?;
         write_file(&folder.join(STATE), &self.block)?;
         write_file(&folder.join(MEMORY), &self.memory)?;
         write_file(&folder.join(STEPS), format!("{}\n", self.steps).as_bytes())?;
+        write_file(&folder.join(SUM), self.sum().as_bytes())?;
         sync_folder(folder)
+    }
+
+    /// What the file `sum` holds: FNV-1a, in 64 bits, of block, steps and memory.
+    fn sum(&self) -> String {
+        let steps = self.steps.to_be_bytes();
+        let bytes = self.block.iter().chain(&steps).chain(&self.memory);
+        let add = |sum: u64, &byte: &u8| (sum ^ byte as u64).wrapping_mul(0x100_0000_01B3);
+        format!("{:016x}\n", bytes.fold(0xCBF2_9CE4_8422_2325, add))
     }
 
     /// The voyage of the last whole save in a folder. Changes nothing there.
     ///
     /// Without a save the error is of the kind [`io::ErrorKind::NotFound`]. Where `state` has not 128 bytes,
-    /// or `steps` is not a number and LF, it is [`io::ErrorKind::InvalidData`]. The block is not judged.
-    /// Every error names the file.
+    /// or `steps` is not a number and LF, it is [`io::ErrorKind::InvalidData`]. So it is where the files are
+    /// not those that were saved together, by their sum: one was cut, changed, or taken from another save.
+    /// The block is not judged. Every error names the file, or the save.
     pub fn restore(folder: &Path) -> io::Result<Voyage> {
         let Some(number) = highest_number(folder)? else {
             return Err(naming(folder)(io::Error::new(io::ErrorKind::NotFound, "no save is in this folder")));
         };
         let save = folder.join(number.to_string());
-        Ok(Voyage {
+        let voyage = Voyage {
             block: read_block(&save.join(STATE))?,
             memory: read_file(&save.join(MEMORY))?,
             steps: read_steps(&save.join(STEPS))?,
-        })
+        };
+        if read_file(&save.join(SUM))? != voyage.sum().as_bytes() {
+            return Err(invalid(&save, String::from("its files are not those that were saved together")));
+        }
+        Ok(voyage)
     }
 }
 

@@ -415,7 +415,7 @@ fn refused(checks: &mut Checks, what: &str, folder: &Path, kind: ErrorKind, name
         Err(error) => (Some(error.kind()), error.to_string()),
     };
     println!("{what}: {said}");
-    let right = got == Some(kind) && said.contains(&named.display().to_string());
+    let right = got == Some(kind) && said.starts_with(&format!("{}: ", named.display()));
     checks.holds(&format!("{what}: the restore fails with {kind:?} and names {}", named.display()), right);
     checks.holds(&format!("{what}: the restore changes nothing in the folder"), contents(folder)? == before);
     Ok(())
@@ -438,18 +438,35 @@ fn no_save(checks: &mut Checks, voyage: &Voyage, parent: &Path) -> io::Result<()
 
 /// A save that lacks a file, or has one with other bytes, is not restored. The next save works.
 fn damaged_saves(checks: &mut Checks, voyage: &Voyage, parent: &Path) -> io::Result<()> {
-    let long = [&voyage.block()[..], &[0]].concat();
-    let damages: [(&str, &str, Option<&[u8]>, ErrorKind); 8] = [
-        ("a state of 127 bytes", "state", Some(&long[..127]), ErrorKind::InvalidData),
-        ("a state of 129 bytes", "state", Some(&long), ErrorKind::InvalidData),
-        ("steps with letters", "steps", Some(b"12a\n"), ErrorKind::InvalidData),
-        ("steps without LF", "steps", Some(b"12"), ErrorKind::InvalidData),
-        ("empty steps", "steps", Some(b""), ErrorKind::InvalidData),
-        ("no state", "state", None, ErrorKind::NotFound),
-        ("no memory", "memory", None, ErrorKind::NotFound),
-        ("no steps", "steps", None, ErrorKind::NotFound),
+    let (state, memory) = (voyage.block(), voyage.memory());
+    let [long_state, long_memory] = [&state[..], memory].map(|bytes| [bytes, &[0]].concat());
+    let last = memory.len() - 1;
+    let mut changed = memory.to_vec();
+    changed[last] ^= 1;
+    let mut later = voyage.clone();
+    later.part(SECOND);
+    let later_steps = format!("{}\n", later.steps());
+    // What a file is then (none where it is removed), and what the error names: that file, or the whole save.
+    let damages: [(&str, &str, Option<&[u8]>, ErrorKind, &str); 17] = [
+        ("a state of 127 bytes", "state", Some(&state[..127]), ErrorKind::InvalidData, "1/state"),
+        ("a state of 129 bytes", "state", Some(&long_state), ErrorKind::InvalidData, "1/state"),
+        ("the state of a later save", "state", Some(later.block()), ErrorKind::InvalidData, "1"),
+        ("no state", "state", None, ErrorKind::NotFound, "1/state"),
+        ("a memory cut short", "memory", Some(&memory[..last]), ErrorKind::InvalidData, "1"),
+        ("a memory with a byte more", "memory", Some(&long_memory), ErrorKind::InvalidData, "1"),
+        ("a memory with another bit", "memory", Some(&changed), ErrorKind::InvalidData, "1"),
+        ("the memory of a later save", "memory", Some(later.memory()), ErrorKind::InvalidData, "1"),
+        ("no memory", "memory", None, ErrorKind::NotFound, "1/memory"),
+        ("steps with letters", "steps", Some(b"12a\n"), ErrorKind::InvalidData, "1/steps"),
+        ("steps without LF", "steps", Some(b"12"), ErrorKind::InvalidData, "1/steps"),
+        ("empty steps", "steps", Some(b""), ErrorKind::InvalidData, "1/steps"),
+        ("the steps of a later save", "steps", Some(later_steps.as_bytes()), ErrorKind::InvalidData, "1"),
+        ("no steps", "steps", None, ErrorKind::NotFound, "1/steps"),
+        ("another sum", "sum", Some(b"0123456789abcdef\n"), ErrorKind::InvalidData, "1"),
+        ("an empty sum", "sum", Some(b""), ErrorKind::InvalidData, "1"),
+        ("no sum", "sum", None, ErrorKind::NotFound, "1/sum"),
     ];
-    for (what, file, bytes, kind) in damages {
+    for (what, file, bytes, kind, named) in damages {
         let folder = new_folder(parent, what)?;
         voyage.save(&folder)?;
         let path = folder.join("1").join(file);
@@ -457,7 +474,7 @@ fn damaged_saves(checks: &mut Checks, voyage: &Voyage, parent: &Path) -> io::Res
             Some(bytes) => fs::write(&path, bytes)?,
             None => fs::remove_file(&path)?,
         }
-        refused(checks, what, &folder, kind, &path)?;
+        refused(checks, what, &folder, kind, &folder.join(named))?;
         voyage.save(&folder)?;
         checks.holds(&format!("{what}: the next save works"), Voyage::restore(&folder)? == *voyage);
     }
