@@ -1,2 +1,4 @@
+#![tactic(auto)]
+
 pub mod changes;
 pub mod operands;

@@ -1,4 +1,6 @@
 // Shifts, products and quotients of longs.
+#![tactic(auto)]
+
 pub mod divide;
 pub mod multiply;
 pub mod shift;

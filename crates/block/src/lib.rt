@@ -1,4 +1,6 @@
 // The state block: the state that it says, and the block of a state. Document 01: "A state block is 128 bytes".
+#![tactic(auto)]
+
 mod number;
 pub mod read;
 pub mod store;

@@ -1,4 +1,6 @@
 // The calls on the accumulators and MACSR, refusals first.
+#![tactic(auto)]
+
 ghost use Rattle.std.specs.Prelude.{◌≡◌};
 ghost use Rattle.manual.specs.EmacCalls.{done_with, acc_get_call, acc_set_call, acc_phys_call, set_acc_phys_call, set_macsr_call};
 

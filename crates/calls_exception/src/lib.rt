@@ -1,2 +1,4 @@
 // The calls on exceptions, refusals first.
+#![tactic(auto)]
+
 pub mod entry;

@@ -1,4 +1,6 @@
 // The calls that push a long on the stack and pop it, refusals first.
+#![tactic(auto)]
+
 ghost use Rattle.std.specs.Prelude.{◌≡◌};
 ghost use Rattle.manual.specs.Reply.{outcome};
 ghost use Rattle.manual.specs.Lent.{lent};

@@ -1,4 +1,6 @@
 // The calls that set the status register and tell its fields, refusals first.
+#![tactic(auto)]
+
 ghost use Rattle.std.specs.Prelude.{◌≡◌};
 ghost use Rattle.manual.specs.Exceptions.{set_sr_call, told as toldOf, ipl as iplOf, supervisor_call};
 

@@ -1,4 +1,6 @@
 // Runs the image file on standard input, and prints what came of it.
+#![tactic(auto)]
+
 mod run;
 
 use libc::{STDIN_FILENO, STDOUT_FILENO};

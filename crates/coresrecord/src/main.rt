@@ -1,4 +1,6 @@
 // Runs the S-records on standard input, and prints what came of it. Before them stand A7, the status register and the budget.
+#![tactic(auto)]
+
 mod run;
 
 ghost use Rattle.std.specs.Prelude.{◌≡◌, length};

@@ -1,4 +1,6 @@
 // The multiply-accumulate unit, by value.
+#![tactic(auto)]
+
 pub mod accumulators;
 pub mod flags;
 pub mod number;

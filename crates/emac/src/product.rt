@@ -11,7 +11,7 @@ use manual::Mode;
 use word::word::plus;
 
 // A number raised by 2^52, and whether it overflowed.
-#[derive(Drop)]
+#[derive(Clone, Copy)]
 pub struct Raised {
     pub value: u64,
     pub over: bool,

@@ -73,7 +73,7 @@ fn stored(k: Mode, out: bool, s: u64) -> u64
 }
 
 // MACSR and an accumulator's pattern after a sum.
-#[derive(Drop)]
+#[derive(Clone, Copy)]
 struct AfterSum {
     macsr: u32,
     acc: u64,

@@ -1,4 +1,6 @@
 // The multiply-accumulate unit, lent and changed: thin calls over those by value. A refused call leaves the unit as it was.
+#![tactic(auto)]
+
 pub mod unit;
 
 ghost use Rattle.std.specs.Prelude.{◌≡◌};

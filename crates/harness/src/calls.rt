@@ -51,7 +51,7 @@ pub fn store_after(done: bool, cpu: Cpu, block: &mut [u8])
 }
 
 // The calls that do no step.
-#[derive(Drop)]
+#[derive(Clone, Copy)]
 enum Call {
     Rte,
     Exception(u8, u32, Level),

@@ -1,4 +1,6 @@
 // The calls that a host makes in C: a state block and a memory, or a text and a memory, each a pointer and a length.
+#![tactic(auto)]
+
 pub mod calls;
 
 ghost use Rattle.std.specs.Prelude.{◌≡◌};

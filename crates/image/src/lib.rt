@@ -1,11 +1,13 @@
 // The image file: from bytes to a machine, and from a run to its text.
+#![tactic(auto)]
+
 pub mod file;
 pub mod print;
 
 use manual::{Cpu, Reply};
 
 // What a read of an image file answers: the reply, the budget, and the state.
-#[derive(Drop)]
+#[derive(Clone, Copy)]
 pub struct Loaded {
     pub reply: Reply,
     pub budget: u32,
@@ -13,7 +15,7 @@ pub struct Loaded {
 }
 
 // A text of `len` bytes, and zeros after it.
-#[derive(Drop)]
+#[derive(Clone, Copy)]
 pub struct Text {
     pub bytes: [u8; 256],
     pub len: usize,

@@ -1,1 +1,3 @@
 // The instructions: their definition stands in specs/.
+#![tactic(auto)]
+

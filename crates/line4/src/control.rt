@@ -22,7 +22,7 @@ pub fn nop(at: u32, sr: u16) -> Change
 }
 
 // The address that LEA, PEA, JSR and JMP work on, with the next instruction's; or the change of an instruction that gets none.
-#[derive(Drop)]
+#[derive(Clone, Copy)]
 pub enum Way {
     To(u32, u32),
     Ends(Change),

@@ -172,7 +172,7 @@ pub fn product(w: u32, d: u32, v: u32) -> u32
 }
 
 // What products and quotients of longs read: the second word, the operand's value, the next address and the operand's move.
-#[derive(Drop)]
+#[derive(Clone, Copy)]
 pub enum WordAndLong {
     Read(u32, u32, u32, Write),
     Fault(Fault),

@@ -1,3 +1,5 @@
+#![tactic(auto)]
+
 pub mod linea;
 pub mod mac;
 mod moves;

@@ -1,3 +1,5 @@
+#![tactic(auto)]
+
 mod bits;
 pub mod line0;
 pub mod lines1to3;

@@ -1,3 +1,5 @@
+#![tactic(auto)]
+
 pub mod line5;
 pub mod line6;
 pub mod line7;

@@ -1,3 +1,5 @@
+#![tactic(auto)]
+
 pub mod line8;
 pub mod lineb;
 pub mod linec;

@@ -1,8 +1,10 @@
 // The machine's data: what the definition in specs/ speaks of, and what the crates above pass around.
+#![tactic(auto)]
+
 pub mod block_places;
 
 // The size of an operand.
-#[derive(Drop)]
+#[derive(Clone, Copy)]
 pub enum Size {
     Byte,
     Word,
@@ -10,7 +12,7 @@ pub enum Size {
 }
 
 // The multiply-accumulate unit. Each accumulator is a pattern of 48 bits; what number it stands for is the mode's to say.
-#[derive(Drop)]
+#[derive(Clone, Copy)]
 pub struct Emac {
     pub macsr: u32,
     pub mask: u32,
@@ -18,7 +20,7 @@ pub struct Emac {
 }
 
 // The state. `r` is D0 to D7 and then A0 to A7; `other` is the stack pointer that A7 is not.
-#[derive(Drop)]
+#[derive(Clone, Copy)]
 pub struct Cpu {
     pub r: [u32; 16],
     pub pc: u32,
@@ -31,34 +33,34 @@ pub struct Cpu {
 }
 
 // What memory can answer other than a number.
-#[derive(Drop)]
+#[derive(Clone, Copy)]
 pub enum Fault {
     Outside,
 }
 
 // What an access finds: the place of storage where its bytes lie, or that it is not to be had.
-#[derive(Drop)]
+#[derive(Clone, Copy)]
 pub enum Access {
     Here(u32),
     Not(Fault),
 }
 
 // What a store answers, or MOVEM's loads: all of it was done, or nothing.
-#[derive(Drop)]
+#[derive(Clone, Copy)]
 pub enum Stored {
     Done,
     Fault(Fault),
 }
 
 // What a read of memory finds.
-#[derive(Drop)]
+#[derive(Clone, Copy)]
 pub enum Got {
     Value(u32),
     Fault(Fault),
 }
 
 // An operand as an opcode word names it, by its mode and its register.
-#[derive(Drop)]
+#[derive(Clone, Copy)]
 pub enum Operand {
     Data(u32),
     Address(u32),
@@ -76,7 +78,7 @@ pub enum Operand {
 }
 
 // Where an operand is: a data register, an address register, memory, or in the instruction itself.
-#[derive(Drop)]
+#[derive(Clone, Copy)]
 pub enum Place {
     D(u32),
     A(u32),
@@ -86,21 +88,21 @@ pub enum Place {
 }
 
 // The address of a control mode: what the read of its words found, or that the mode has no address.
-#[derive(Drop)]
+#[derive(Clone, Copy)]
 pub enum Reached {
     At(Got),
     NoAddress,
 }
 
 // A register write: 0 to 7 are D0 to D7, 8 to 15 are A0 to A7, anything above is none.
-#[derive(Drop)]
+#[derive(Clone, Copy)]
 pub struct Write {
     pub to: u32,
     pub value: u32,
 }
 
 // What an operand reads: the value, the address after its extension words, and its register's move.
-#[derive(Drop)]
+#[derive(Clone, Copy)]
 pub struct Source {
     pub got: Got,
     pub next: u32,
@@ -108,7 +110,7 @@ pub struct Source {
 }
 
 // Where an operand is written: its place, the address after its extension words, and its register's move.
-#[derive(Drop)]
+#[derive(Clone, Copy)]
 pub struct Destination {
     pub place: Place,
     pub next: u32,
@@ -116,7 +118,7 @@ pub struct Destination {
 }
 
 // What AND, OR and EOR do to each pair of bits.
-#[derive(Drop)]
+#[derive(Clone, Copy)]
 pub enum Logic {
     And,
     Or,
@@ -124,7 +126,7 @@ pub enum Logic {
 }
 
 // A result of a size, and what it says of itself.
-#[derive(Drop)]
+#[derive(Clone, Copy)]
 pub struct Sum {
     pub value: u32,
     pub negative: bool,
@@ -134,14 +136,14 @@ pub struct Sum {
 }
 
 // A shifted long, and the last bit that went out.
-#[derive(Drop)]
+#[derive(Clone, Copy)]
 pub struct Shifted {
     pub value: u32,
     pub carry: bool,
 }
 
 // A quotient and its remainder, or that the quotient does not fit.
-#[derive(Drop)]
+#[derive(Clone, Copy)]
 pub struct Quotient {
     pub fits: bool,
     pub quotient: u32,
@@ -149,7 +151,7 @@ pub struct Quotient {
 }
 
 // How the EMAC reads its operands and accumulators: MACSR's bits FI, SU, RT and OMC.
-#[derive(Drop)]
+#[derive(Clone, Copy)]
 pub struct Mode {
     pub fi: bool,
     pub su: bool,
@@ -158,7 +160,7 @@ pub struct Mode {
 }
 
 // What of the EMAC a move writes.
-#[derive(Drop)]
+#[derive(Clone, Copy)]
 pub enum EmacPart {
     Acc,
     Ext,
@@ -167,28 +169,28 @@ pub enum EmacPart {
 }
 
 // The control registers that MOVEC is carried for.
-#[derive(Drop)]
+#[derive(Clone, Copy)]
 pub enum ControlRegister {
     Cacr,
     Vbr,
 }
 
 // What the number of a control register names.
-#[derive(Drop)]
+#[derive(Clone, Copy)]
 pub enum Named {
     Control(ControlRegister),
     Unknown,
 }
 
 // The interrupt mask that an exception sets, if any.
-#[derive(Drop)]
+#[derive(Clone, Copy)]
 pub enum Level {
     Kept,
     To(u8),
 }
 
 // The answers, 0 to 9 in the order of their numbers.
-#[derive(Drop)]
+#[derive(Clone, Copy)]
 pub enum Reply {
     Done,
     TooLong,
@@ -206,7 +208,7 @@ pub enum Reply {
 // and an address. Stop, PushStatus and Status hand on a new status register. Accumulate is MAC and MSAC: the accumulator,
 // the scale factor, whether the product is taken from it, and the two operands. MoveControl is MOVEC: whether the control
 // register is written, which one it is, and the general register.
-#[derive(Drop)]
+#[derive(Clone, Copy)]
 pub enum Action {
     Nothing,
     Store(u32, Size, u32),
@@ -231,7 +233,7 @@ pub enum Action {
 }
 
 // All that an instruction changes: nothing else of the machine can differ after it. `ccr` is the five condition codes.
-#[derive(Drop)]
+#[derive(Clone, Copy)]
 pub struct Change {
     pub pc: u32,
     pub ccr: u32,
@@ -241,7 +243,7 @@ pub struct Change {
 }
 
 // What a step, an entry or a return answers: the reply, the vector that was entered, or 0, and the state.
-#[derive(Drop)]
+#[derive(Clone, Copy)]
 pub struct Stepped {
     pub reply: Reply,
     pub vector: u8,
@@ -249,7 +251,7 @@ pub struct Stepped {
 }
 
 // What a run answers: the reply, how many steps were done, and the state.
-#[derive(Drop)]
+#[derive(Clone, Copy)]
 pub struct Ran {
     pub reply: Reply,
     pub count: u32,
@@ -257,14 +259,14 @@ pub struct Ran {
 }
 
 // What a question of the state answers: the reply and the number.
-#[derive(Drop)]
+#[derive(Clone, Copy)]
 pub struct Told {
     pub reply: Reply,
     pub value: u64,
 }
 
 // What a pop answers: the reply, the number, and the state.
-#[derive(Drop)]
+#[derive(Clone, Copy)]
 pub struct Popped {
     pub reply: Reply,
     pub value: u32,
@@ -272,14 +274,14 @@ pub struct Popped {
 }
 
 // What a call on a unit alone answers: the reply and the unit.
-#[derive(Drop)]
+#[derive(Clone, Copy)]
 pub struct EmacAnswer {
     pub reply: Reply,
     pub emac: Emac,
 }
 
 // What any other call answers: the reply and the state.
-#[derive(Drop)]
+#[derive(Clone, Copy)]
 pub struct Answer {
     pub reply: Reply,
     pub cpu: Cpu,

@@ -1,4 +1,6 @@
 // Numbers in a lent memory, big-endian, at any address.
+#![tactic(auto)]
+
 pub mod many;
 
 ghost use Rattle.std.specs.Prelude.{◌≡◌, ◌+◌, ◌*◌, ◌/◌, ◌%◌, ◌^◌, ◌<◌, ◌≤◌, length, slice_index, slice_set};

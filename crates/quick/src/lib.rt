@@ -1,5 +1,7 @@
 // The quick path: the common instructions, each by its row, done in place. Any other word, and any operand or fault that the bodies do not
 // take on, is left to the plain engine, with nothing changed.
+#![tactic(auto)]
+
 ghost use Rattle.std.specs.Prelude.{◌≡◌, cond, ℕ, eqb};
 ghost use Rattle.manual.specs.Memory.{mapped};
 ghost use Rattle.manual.specs.declared.Emac.{Emac};

@@ -15,7 +15,7 @@ use word::registers::{address, general, no_write, write, write_address, write_ge
 use word::word::{minus, plus, sign_extended};
 
 // Done, with the next address and MACSR; or left undone, with nothing changed.
-#[derive(Drop)]
+#[derive(Clone, Copy)]
 pub enum Summed {
     Done(u32, u32),
     Left,
@@ -23,7 +23,7 @@ pub enum Summed {
 
 // What is yet to be summed, the registers being written: the next address, the accumulator's number, the scale, whether it is
 // subtracted, and the factors. Or left undone, with nothing changed.
-#[derive(Drop)]
+#[derive(Clone, Copy)]
 enum Product {
     Of(u32, u32, u32, bool, u32, u32),
     Left,

@@ -8,7 +8,7 @@ use memory::store;
 use word::registers::{coded, write};
 
 // Done, with the next address and the status register; or left undone, with nothing changed.
-#[derive(Drop)]
+#[derive(Clone, Copy)]
 pub enum Effect {
     Done(u32, u16),
     Left,

@@ -1,4 +1,6 @@
 // Replays the original's answers on standard input (VECTORS.md), and prints how many of them this core gives too.
+#![tactic(auto)]
+
 mod number;
 mod patch;
 mod record;
@@ -12,7 +14,7 @@ use record::record;
 
 // How many records there are, how many agree, the number of the first that does not (0 where all do), and the
 // place after the last.
-#[derive(Drop)]
+#[derive(Clone, Copy)]
 struct Tally {
     records: u64,
     agree: u64,

@@ -41,7 +41,7 @@ fn put(file: &[u8], at: usize, n: usize, to: &mut [u8], place: usize)
 }
 
 // Where the next run is in the file, and where in the array the last one ended.
-#[derive(Drop)]
+#[derive(Clone, Copy)]
 struct Spot {
     at: usize,
     place: usize,

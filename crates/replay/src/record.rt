@@ -10,7 +10,7 @@ use check::same;
 use harness::{exception, exception_at, interrupt, rte, run, step};
 
 // Where the next record starts, and whether this one's answer is the expected one.
-#[derive(Drop)]
+#[derive(Clone, Copy)]
 pub struct Replayed {
     pub at: usize,
     pub agrees: bool,

@@ -1,7 +1,9 @@
 // The data of S-records: what the definition in specs/ speaks of, and what the crates above pass around.
+#![tactic(auto)]
+
 
 // The answers to a text that is read and to a range that is written.
-#[derive(Drop)]
+#[derive(Clone, Copy)]
 pub enum TextReply {
     Done,
     TooLong,
@@ -12,7 +14,7 @@ pub enum TextReply {
 }
 
 // What a record is by its digit, and how many bytes its address has.
-#[derive(Drop)]
+#[derive(Clone, Copy)]
 pub enum Kind {
     Data(usize),
     End(usize),
@@ -21,14 +23,14 @@ pub enum Kind {
 }
 
 // What a read answers: the reply and the start address.
-#[derive(Drop)]
+#[derive(Clone, Copy)]
 pub struct ReadAnswer {
     pub reply: TextReply,
     pub start: u32,
 }
 
 // What a write answers: the reply and how many bytes of the text were written.
-#[derive(Drop)]
+#[derive(Clone, Copy)]
 pub struct WriteAnswer {
     pub reply: TextReply,
     pub count: u32,
