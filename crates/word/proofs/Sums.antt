@@ -1,6 +1,6 @@
 -- Sums and differences of a size: the sign bits tell that the signed result does not fit. `out-half` turns the whole numbers into
 -- raised ones, and the sign bits are those of three tests on natural numbers. Assumes nothing.
-use Rattle.std.proofs.Common.{◌≡◌, ℕ, ◌+◌, ◌-◌, ◌%◌, ◌<◌, ◌≤◌, Bool, true, false, cond, not, ◌&&◌, ◌||◌, eqb, ltb, leb, pos, ◌+ℤ◌, ◌-ℤ◌, sym, refl, ap, ◌∙◌, mod-eq_of_lt, arith, le-ltb, lt-ltb, le-leb}
+use Rattle.std.proofs.Common.{◌≡◌, ℕ, ◌+◌, ◌-◌, ◌%◌, ◌<◌, ◌≤◌, Bool, cond, not, ◌&&◌, ◌||◌, eqb, ltb, leb, pos, ◌+ℤ◌, ◌-ℤ◌, sym, ap, ◌∙◌, mod-eq_of_lt, arith, le-ltb, lt-ltb, le-leb}
 use mathlib.Core.Bool.{beq}
 use borrow.Author.Tests.{lt-leb}
 use Rattle.manual.specs.declared.Size.{Size}
@@ -9,7 +9,7 @@ use Rattle.manual.specs.Word.{bit, cut, half, numbers, signed_at, in_half}
 use Rattle.manual.specs.Flags.{added, subtracted}
 use Rattle.word.specs.TestLaws.{Tested, yes, no, tested}
 use Rattle.word.specs.RaisedLaws.{Up, plus-both, plus_nat, minus-to, minus_nat, signed_up, out-half}
-use Rattle.word.specs.WordLaws.{halves, numbers-few, cut_below, bit_below, once}
+use Rattle.word.specs.WordLaws.{halves, cut_below, bit_below, once}
 
 -- the number of a pattern, raised by h
 abbrev raised : ℕ → ℕ → ℕ
