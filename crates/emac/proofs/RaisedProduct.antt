@@ -1,5 +1,5 @@
 -- The product of raised numbers, modulo 2^64, is the raised product. u and v are the magnitudes. Assumes nothing.
-use Rattle.std.proofs.Common.{◌≡◌, ℕ, ◌+◌, ◌-◌, ◌*◌, ◌/◌, ◌%◌, ◌^◌, ◌<◌, ◌≤◌, ℤ, ◌*ℤ◌, sym, refl, ap, ◌∙◌, ap₂, le_of_lt, add-mul, mul-add, arith}
+use Rattle.std.proofs.Common.{◌≡◌, ℕ, ◌+◌, ◌-◌, ◌*◌, ◌%◌, ◌^◌, ◌<◌, ◌≤◌, ℤ, ◌*ℤ◌, sym, refl, ap, ◌∙◌, le_of_lt, add-mul, mul-add, arith}
 use Rattle.manual.specs.declared.Size.TheVariants.{Long}
 use Rattle.manual.specs.Word.{signed}
 use Rattle.word.specs.TestLaws.{by-lt}

@@ -1,5 +1,5 @@
 -- What each way of `mac_read` and its parts is, in plain numbers. Assumes nothing.
-use Rattle.std.proofs.Common.{◌≡◌, ℕ, zero, suc, ◌+◌, ◌-◌, ◌/◌, ◌%◌, ◌^◌, ◌<◌, Bool, true, false, cond, not, ◌&&◌, ◌||◌, ltb, leb, ℤ, pos, negsuc, sym, refl, ap, ◌∙◌, arith, lt-ltb}
+use Rattle.std.proofs.Common.{◌≡◌, ℕ, zero, suc, ◌+◌, ◌/◌, ◌%◌, ◌^◌, ◌<◌, Bool, true, false, cond, not, ◌&&◌, ◌||◌, ltb, leb, ℤ, pos, negsuc, sym, refl, ap, ◌∙◌, arith, lt-ltb}
 use mathlib.Core.Bool.{and-false}
 use lib.IntN.{suc_ℤ}
 use lib.Signed.{shr_z}

@@ -1,5 +1,5 @@
 -- Numbers raised by 2^52 at the widths of an accumulator: what division and remainder do, by the sign. Assumes nothing.
-use Rattle.std.specs.Prelude.{◌≡◌, ℕ, ◌+◌, ◌-◌, ◌/◌, ◌%◌, ◌^◌, ℤ, pos, negsuc}
+use Rattle.std.specs.Prelude.{◌≡◌, ℕ, ◌/◌, ◌%◌, ◌^◌, ℤ, pos, negsuc}
 use Rattle.std.proofs.Common.{arith}
 use Rattle.std.specs.Int.Signed.{shr_z}
 use Rattle.manual.specs.Word.{mod_z}

@@ -1,6 +1,6 @@
 -- One register of a mask, in a loop's terms: registers n to 15 are to come.
 -- Assumes nothing.
-use Rattle.std.proofs.Common.{◌≡◌, ℕ, zero, suc, ◌+◌, ◌-◌, ◌*◌, ◌/◌, ◌%◌, ◌<◌, ◌≤◌, Bool, true, false, cond, List, get_or, set, sym, refl, ◌∙◌, arith, eq-eqb, ne_eqb}
+use Rattle.std.proofs.Common.{◌≡◌, ℕ, suc, ◌+◌, ◌-◌, ◌/◌, ◌%◌, ◌<◌, ◌≤◌, List, get_or, set, arith, eq-eqb, ne_eqb}
 use Rattle.manual.specs.declared.Size.TheVariants.{Long}
 use Rattle.manual.specs.declared.Fault.{Fault as Faults}
 use Rattle.manual.specs.declared.Access.{Access}
@@ -9,7 +9,7 @@ use Rattle.manual.specs.declared.Stored.{Stored}
 use Rattle.manual.specs.declared.Stored.TheVariants.{Done, Fault}
 use Rattle.manual.specs.Word.{plus}
 use Rattle.manual.specs.Registers.{general}
-use Rattle.manual.specs.Memory.{Storage, Memory, access, number_at, stored, access_many, stored_many, loaded_many}
+use Rattle.manual.specs.Memory.{Memory, access, number_at, stored, access_many, stored_many, loaded_many}
 
 pub general-below : (g : List ℕ) (n : ℕ) → n < 16 → general g n ≡ get_or g n 0
 unfolding general
