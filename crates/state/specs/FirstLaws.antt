@@ -1,5 +1,5 @@
 -- The first refusals: what it says that there is none, and what keeps it so. Assumes nothing.
-use Rattle.std.specs.Prelude.{ℕ, ◌≡◌, Bool, true, false, cond, length}
+use Rattle.std.specs.Prelude.{◌≡◌, Bool, true, false, cond, length}
 use Rattle.std.proofs.Math.Path.{refl}
 use Rattle.std.proofs.Common.{sym, ◌∙◌}
 use Rattle.std.proofs.lemmas.Bool.{false≢true}

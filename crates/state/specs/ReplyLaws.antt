@@ -1,6 +1,5 @@
 -- Done is the one reply that has the number 0. Assumes nothing.
-use Rattle.std.specs.Prelude.{◌≡◌, refl, true, false}
-use Rattle.std.proofs.Common.{sym}
+use Rattle.std.specs.Prelude.{◌≡◌, refl, true}
 use Rattle.std.proofs.lemmas.Bool.{false≢true}
 use Rattle.manual.specs.declared.Reply.{Reply}
 use Rattle.manual.specs.declared.Reply.TheVariants.{Done, TooLong, NotAdmitted, Stopped, NotInside, NotCarried, OutOfRange, Masked, WrongVersion, WrongLength}

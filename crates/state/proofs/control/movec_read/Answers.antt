@@ -1,4 +1,3 @@
-use borrow.Author.Rules.{rules}
 use Rattle.manual.specs.Control.{movec_read}
 use Rattle.state.proofs.control.movec_read.Goals as goal
 

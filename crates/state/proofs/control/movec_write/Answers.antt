@@ -1,4 +1,3 @@
-use borrow.Author.Rules.{rules}
 use Rattle.manual.specs.Registers.{with_vbr, with_cacr}
 use Rattle.manual.specs.Control.{movec_write}
 use Rattle.state.proofs.control.movec_write.Goals as goal

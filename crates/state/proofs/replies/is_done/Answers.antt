@@ -1,5 +1,4 @@
 -- `state::replies::is_done` meets its contract. Assumes nothing.
-use borrow.Author.Rules.{rules}
 use Rattle.state.proofs.replies.is_done.Goals as goal
 
 pub returns : goal.returns

@@ -1,6 +1,5 @@
 -- `state::replies::number_of` meets its contract. Assumes nothing.
 use borrow.Author.Rules.{rules}
-use Rattle.manual.specs.Reply.{number_of}
 use Rattle.state.proofs.replies.number_of.Goals as goal
 
 pub returns-in-Done : goal.returns-in-Done

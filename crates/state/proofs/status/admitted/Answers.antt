@@ -1,6 +1,5 @@
 -- `state::status::admitted` meets its contract. Assumes nothing.
 use Rattle.manual.specs.Admitted.{admitted as admittedOf}
-use borrow.Author.Rules.{rules}
 use Rattle.state.proofs.status.admitted.Goals as goal
 
 pub returns : goal.returns

@@ -5,7 +5,6 @@ use native.Mathlib.Omega.{arith}
 use Rattle.manual.specs.Bits.{with_bit}
 use Rattle.manual.specs.Exceptions.{with_mask, handler_sr as handlerSrOf}
 use Rattle.word.specs.BitLaws.{with_parts_lem}
-use borrow.Author.Rules.{rules}
 use Rattle.state.proofs.status.handler_sr.Goals as goal
 
 -- T cleared and S set: bit 14, and what stands below S, stay

@@ -1,6 +1,5 @@
 -- `state::status::with_status` meets its contract. Assumes nothing.
 use Rattle.manual.specs.Exceptions.{set_sr as setSrOf}
-use borrow.Author.Rules.{rules}
 use Rattle.state.proofs.status.with_status.Goals as goal
 
 pub returns-then-both : goal.returns-then-both
