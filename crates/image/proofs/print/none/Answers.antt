@@ -1,0 +1,8 @@
+-- `image::print::none` meets its contract. Assumes nothing.
+use mathlib.Core.Path.{refl}
+use Rattle.image.specs.Texts.{none as noneOf}
+use Rattle.image.proofs.print.none.Goals as goal
+
+pub returns : goal.returns
+unfolding noneOf
+returns c = refl
