@@ -1,0 +1,16 @@
+use borrow.Author.Tests.{lt-ltb, le-ltb}
+use Rattle.manual.specs.EmacCalls.{acc_get_call}
+use Rattle.calls_emac.proofs.acc_get.Goals as goal
+
+pub returns-then-not-admitted : goal.returns-then-not-admitted
+unfolding acc_get_call
+returns-then-not-admitted c = rw (← c.admitted.ensures, c.if-not-admitted.true)
+
+pub returns-then-i-ge-ACCUMULATORS : goal.returns-then-i-ge-ACCUMULATORS
+unfolding acc_get_call
+returns-then-i-ge-ACCUMULATORS c = rw (← c.admitted.ensures, c.if-not-admitted.false, le-ltb _ _ c.if-i-ge-ACCUMULATORS.true)
+
+pub returns : goal.returns
+unfolding acc_get_call
+returns c =
+    rw (← c.admitted.ensures, c.if-not-admitted.false, lt-ltb _ _ c.if-i-ge-ACCUMULATORS.false, ← c.mode_of.ensures, ← c.acc_of.ensures, ← c.block_number-b.ensures)
