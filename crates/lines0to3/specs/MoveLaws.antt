@@ -1,7 +1,7 @@
 -- MOVE to Dn is MOVE to any operand: the registers' data part is as it was after the source's move. Assumes nothing.
-use Rattle.std.specs.Prelude.{ℕ, ◌+◌, ◌/◌, ◌%◌, ◌≤◌, ◌<◌, ◌≡◌, List}
+use Rattle.std.specs.Prelude.{ℕ, ◌/◌, ◌%◌, ◌≤◌, ◌≡◌, List}
 use Rattle.std.proofs.Math.Path.{refl}
-use Rattle.std.proofs.Common.{sym, arith, get_or-set_other, lt-ltb, le-ltb}
+use Rattle.std.proofs.Common.{arith, get_or-set_other, lt-ltb, le-ltb}
 use Rattle.manual.specs.declared.Size.{Size}
 use Rattle.manual.specs.declared.Got.{Got}
 use Rattle.manual.specs.declared.Got.TheVariants.{Value, Fault as NoValue}

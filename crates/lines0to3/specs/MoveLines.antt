@@ -1,5 +1,5 @@
 -- Lines 1, 2 and 3 as one: a line says the size of its MOVE, and which row is MOVEA's. Assumes nothing.
-use Rattle.std.specs.Prelude.{ℕ, ◌+◌, ◌-◌, ◌≤◌, ◌<◌, ◌≡◌, Bool, cond, List, [], ◌∷◌, eqb, ltb, get_or}
+use Rattle.std.specs.Prelude.{ℕ, ◌+◌, ◌-◌, ◌≤◌, ◌<◌, ◌≡◌, Bool, cond, List, [], ◌∷◌, eqb, get_or}
 use Rattle.std.proofs.Math.Bool.{true, false}
 use native.Mathlib.Omega.{arith}
 use borrow.Author.Tests.{eq-eqb, ne_eqb, lt-ltb, le-ltb}
@@ -8,7 +8,7 @@ use Rattle.manual.specs.declared.Size.{Size}
 use Rattle.manual.specs.declared.Size.TheVariants.{Byte, Word, Long}
 use Rattle.manual.specs.declared.Change.{Change}
 use Rattle.manual.specs.Memory.{Memory}
-use Rattle.instructions.specs.Rows.{row_count, first_row, place_in}
+use Rattle.instructions.specs.Rows.{first_row, place_in}
 use Rattle.manual.specs.Change.{illegal}
 use Rattle.word.specs.TestLaws.{by-lt}
 use Rattle.instructions.specs.Moves.{move, movea, moves, line1, line2, line3}

@@ -17,7 +17,6 @@ use Rattle.manual.specs.Registers.{no_write}
 use Rattle.manual.specs.Memory.{Memory, load}
 use Rattle.manual.specs.Address.{extension, locate, moved, source, control, reached as reachedAt}
 use Rattle.manual.specs.Change.{done, put, store}
-use Rattle.manual.specs.declared.Change.{Change}
 use Rattle.quick_parts.specs.declared.Spot.{Spot}
 use Rattle.quick_parts.specs.declared.Spot.TheVariants.{At, NotNear}
 use Rattle.quick_parts.specs.declared.Reading.{Reading}

@@ -1,6 +1,6 @@
 -- A change that was done in place is what the definition's step does. Assumes nothing.
-use Rattle.std.specs.Prelude.{ℕ, ◌≡◌, refl, Bool, true, false, cond, List}
-use Rattle.std.proofs.Common.{arith, sym, ◌∙◌}
+use Rattle.std.specs.Prelude.{ℕ, ◌≡◌, List}
+use Rattle.std.proofs.Common.{arith}
 use Rattle.std.proofs.Math.Path.{ap}
 use Rattle.manual.specs.declared.Cpu.{Cpu}
 use Rattle.manual.specs.declared.Emac.{Emac}
@@ -13,7 +13,6 @@ use Rattle.manual.specs.Registers.{written, coded, applied, with_parts, with_reg
 use Rattle.manual.specs.Memory.{Storage, Memory, storing, stored, access_many, stored_many, loaded_many}
 use Rattle.manual.specs.Reply.{Outcome, completed, taking}
 use Rattle.instructions.specs.Perform.{act, perform}
-use Rattle.quick_parts.specs.declared.inplace.Effect.{Effect}
 use Rattle.quick_parts.specs.declared.inplace.Effect.TheVariants.{Done, Left}
 use Rattle.quick_parts.specs.Effects.{After, after, where_taken, acted, in_place}
 

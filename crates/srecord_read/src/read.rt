@@ -2,7 +2,7 @@
 ghost use Rattle.std.specs.Prelude.{◌≡◌, ◌≤◌, ◌<◌, length, drop};
 ghost use Rattle.srecord.specs.Reading.{lines, placed, read_refused, end_of, reading, read_text};
 ghost use Rattle.srecord.specs.TextCalls.{text_called, read_call};
-ghost use Rattle.srecord_read.specs.Texts.{verdict_from, clear_from, on_record, goes_on, ahead, between, StoredTo};
+ghost use Rattle.srecord_read.specs.Texts.{verdict_from, clear_from, on_record, goes_on, Ahead, Between, StoredTo};
 
 use super::Step;
 use super::text::{bare_end, clear, line_end};
@@ -37,7 +37,7 @@ fn at_end(text: &[u8], i: usize, start: u32) -> ReadAnswer
 // What a line brings, with the text from `next` on to come.
 fn judge(text: &[u8], next: usize, size: usize, line: Record) -> Step
     requires { next ≤ length text.now }
-    ensures { (goes_on text.now size result ≡ on_record size (verdict_from size (drop next text.now)) (clear_from (drop next text.now)) line) × (ahead next result) }
+    ensures { (goes_on text.now size result ≡ on_record size (verdict_from size (drop next text.now)) (clear_from (drop next text.now)) line) × (Ahead next result) }
 {
     match line {
         Record::Data(a, n) => {
@@ -55,7 +55,7 @@ fn judge(text: &[u8], next: usize, size: usize, line: Record) -> Step
 
 fn step(text: &[u8], i: usize, size: usize) -> Step
     requires { i < length text.now }
-    ensures { (goes_on text.now size result ≡ verdict_from size (drop i text.now)) × (between i (length text.now) result) }
+    ensures { (goes_on text.now size result ≡ verdict_from size (drop i text.now)) × (Between i (length text.now) result) }
 {
     let e = line_end(text, i);
     if e == text.len() {
