@@ -1,0 +1,20 @@
+use Rattle.line4.proofs.single.replaced.Goals as goal
+
+pub returns : goal.returns
+returns c =
+    rw (← c.plus-next.ensures, ← c.move_codes-codes.ensures, ← c.no_write.ensures, ← c.write_data.ensures, ← c.done.ensures)
+
+pub plus-next-requires : goal.plus-next-requires
+plus-next-requires c = tt
+
+pub move_codes-codes-requires : goal.move_codes-codes-requires
+move_codes-codes-requires c = tt
+
+pub no_write-requires : goal.no_write-requires
+no_write-requires c = tt
+
+pub write_data-requires : goal.write_data-requires
+write_data-requires c = tt
+
+pub done-requires : goal.done-requires
+done-requires c = tt

@@ -1,0 +1,33 @@
+use borrow.Author.Tests.{eq-eqb, ne_eqb}
+use Rattle.instructions.specs.Line4.{move_to_sr as moveToSrOf}
+use Rattle.line4.proofs.status.move_to_sr.Goals as goal
+
+pub returns-in-Fault : goal.returns-in-Fault
+unfolding moveToSrOf
+returns-in-Fault c =
+    rw (← c.plus.ensures, ← c.source-from.ensures, c.in-Fault.is, ← c.refused.ensures)
+
+pub returns-then-sr-eq1 : goal.returns-then-sr-eq1
+unfolding moveToSrOf
+returns-then-sr-eq1 c =
+    rw (← c.plus.ensures, ← c.source-from.ensures, c.in-Value.is, eq-eqb _ _ c.if-sr-eq1.true, ← c.acting.ensures)
+
+pub returns-else-sr-eq1 : goal.returns-else-sr-eq1
+unfolding moveToSrOf
+returns-else-sr-eq1 c =
+    rw (← c.plus.ensures, ← c.source-from.ensures, c.in-Value.is, ne_eqb _ _ c.if-sr-eq1.false, ← c.enter_after.ensures)
+
+pub plus-requires : goal.plus-requires
+plus-requires c = tt
+
+pub source-from-requires : goal.source-from-requires
+source-from-requires c = tt
+
+pub refused-requires : goal.refused-requires
+refused-requires c = tt
+
+pub acting-requires : goal.acting-requires
+acting-requires c = tt
+
+pub enter_after-requires : goal.enter_after-requires
+enter_after-requires c = tt

@@ -1,0 +1,33 @@
+use borrow.Author.Tests.{eq-eqb, ne_eqb}
+use Rattle.instructions.specs.LineA.{mac as macOf}
+use Rattle.linea.proofs.mac.mac.Goals as goal
+
+pub returns-in-Fault : goal.returns-in-Fault
+unfolding macOf
+returns-in-Fault c =
+    rw (← c.plus.ensures, ← c.load.ensures, c.in-Fault.is, ← c.refused.ensures)
+
+pub returns-then-op-eq0 : goal.returns-then-op-eq0
+unfolding macOf
+returns-then-op-eq0 c =
+    rw (← c.plus.ensures, ← c.load.ensures, c.in-Value.is, eq-eqb _ _ c.if-op-eq0.true, ← c.mac_registers.ensures)
+
+pub returns-else-op-eq0 : goal.returns-else-op-eq0
+unfolding macOf
+returns-else-op-eq0 c =
+    rw (← c.plus.ensures, ← c.load.ensures, c.in-Value.is, ne_eqb _ _ c.if-op-eq0.false, ← c.mac_with_load.ensures)
+
+pub plus-requires : goal.plus-requires
+plus-requires c = tt
+
+pub load-requires : goal.load-requires
+load-requires c = tt
+
+pub refused-requires : goal.refused-requires
+refused-requires c = tt
+
+pub mac_registers-requires : goal.mac_registers-requires
+mac_registers-requires c = tt
+
+pub mac_with_load-requires : goal.mac_with_load-requires
+mac_with_load-requires c = tt

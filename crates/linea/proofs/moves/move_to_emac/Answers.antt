@@ -1,0 +1,27 @@
+use Rattle.instructions.specs.LineA.{move_to_emac as moveToEmacOf}
+use Rattle.linea.proofs.moves.move_to_emac.Goals as goal
+
+pub returns-in-Fault : goal.returns-in-Fault
+unfolding moveToEmacOf
+returns-in-Fault c =
+    rw (← c.plus.ensures, ← c.source-from.ensures, c.in-Fault.is, ← c.refused.ensures)
+
+pub returns : goal.returns
+unfolding moveToEmacOf
+returns c =
+    rw (← c.plus.ensures, ← c.source-from.ensures, c.in-Value.is, ← c.setting.ensures, ← c.acting.ensures)
+
+pub plus-requires : goal.plus-requires
+plus-requires c = tt
+
+pub source-from-requires : goal.source-from-requires
+source-from-requires c = tt
+
+pub refused-requires : goal.refused-requires
+refused-requires c = tt
+
+pub setting-requires : goal.setting-requires
+setting-requires c = tt
+
+pub acting-requires : goal.acting-requires
+acting-requires c = tt

@@ -1,0 +1,44 @@
+use Rattle.instructions.specs.Line6.{bcc as bccOf}
+use Rattle.lines5to9.proofs.line6.bcc.Goals as goal
+
+pub returns-in-Fault : goal.returns-in-Fault
+unfolding bccOf
+returns-in-Fault c =
+    rw (← c.plus-pc.ensures, ← c.displacement.ensures, c.in-Fault.is, ← c.refused.ensures)
+
+pub returns-then-condition : goal.returns-then-condition
+unfolding bccOf
+returns-then-condition c =
+    rw (← c.plus-pc.ensures, ← c.displacement.ensures, c.in-Value.is, ← c.condition.ensures, c.if-condition.true, ← c.plus.ensures, ← c.jump.ensures)
+
+pub returns-else-condition : goal.returns-else-condition
+unfolding bccOf
+returns-else-condition c =
+    rw (← c.plus-pc.ensures, ← c.displacement.ensures, c.in-Value.is, ← c.condition.ensures, c.if-condition.false, ← c.displacement_bytes.ensures, ← c.plus-else-condition.ensures, ← c.jump-else-condition.ensures)
+
+pub plus-pc-requires : goal.plus-pc-requires
+plus-pc-requires c = tt
+
+pub displacement-requires : goal.displacement-requires
+displacement-requires c = tt
+
+pub refused-requires : goal.refused-requires
+refused-requires c = tt
+
+pub condition-requires : goal.condition-requires
+condition-requires c = tt
+
+pub plus-requires : goal.plus-requires
+plus-requires c = tt
+
+pub jump-requires : goal.jump-requires
+jump-requires c = tt
+
+pub displacement_bytes-requires : goal.displacement_bytes-requires
+displacement_bytes-requires c = tt
+
+pub plus-requires-else-condition : goal.plus-requires-else-condition
+plus-requires-else-condition c = tt
+
+pub jump-requires-else-condition : goal.jump-requires-else-condition
+jump-requires-else-condition c = tt

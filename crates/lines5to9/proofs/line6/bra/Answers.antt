@@ -1,0 +1,27 @@
+use Rattle.instructions.specs.Line6.{bra as braOf}
+use Rattle.lines5to9.proofs.line6.bra.Goals as goal
+
+pub returns-in-Fault : goal.returns-in-Fault
+unfolding braOf
+returns-in-Fault c =
+    rw (← c.plus-pc.ensures, ← c.displacement.ensures, c.in-Fault.is, ← c.refused.ensures)
+
+pub returns : goal.returns
+unfolding braOf
+returns c =
+    rw (← c.plus-pc.ensures, ← c.displacement.ensures, c.in-Value.is, ← c.plus.ensures, ← c.jump.ensures)
+
+pub plus-pc-requires : goal.plus-pc-requires
+plus-pc-requires c = tt
+
+pub displacement-requires : goal.displacement-requires
+displacement-requires c = tt
+
+pub refused-requires : goal.refused-requires
+refused-requires c = tt
+
+pub plus-requires : goal.plus-requires
+plus-requires c = tt
+
+pub jump-requires : goal.jump-requires
+jump-requires c = tt
