@@ -4,9 +4,8 @@ use Rattle.replay.proofs.patch.put_run.Goals as goal
 
 pub returns : goal.returns
 unfolding next_at next_place put_run
-returns c =
-    (
-      rw (← c.onward-second.ensures, ← c.onward-at.ensures, ← c.byte_at-len.ensures.0) c.onward.ensures,
-      rw (← c.onward-second.ensures, ← c.byte_at-len.ensures.0, ← c.byte_at.ensures.0, ← c.onward-place.ensures) c.onward-2.ensures,
-      rw (← c.onward-second.ensures, ← c.onward-at.ensures, ← c.byte_at-len.ensures.0, ← c.byte_at.ensures.0, ← c.onward-place.ensures) c.put.ensures,
-    )
+returns c = (
+  rw (← c.onward-second.ensures, ← c.onward-at.ensures, ← c.byte_at-len.ensures.0) c.onward.ensures,
+  rw (← c.onward-second.ensures, ← c.byte_at-len.ensures.0, ← c.byte_at.ensures.0, ← c.onward-place.ensures) c.onward-2.ensures,
+  rw (← c.onward-second.ensures, ← c.onward-at.ensures, ← c.byte_at-len.ensures.0, ← c.byte_at.ensures.0, ← c.onward-place.ensures) c.put.ensures,
+)
