@@ -3,15 +3,16 @@
 
 mod run;
 
-use libc::{STDIN_FILENO, STDOUT_FILENO};
 use run::answer;
+use standard_input::read_full;
+use std::io;
 
-fn main() {
+fn main(rt: HostRuntime) -> io::Result<()> {
     // A file that does not fit is longer than an image can be, and what fits of it gets the same reply.
-    let mut input = io::large_buffer();
-    let n = io::read_full(STDIN_FILENO, &mut input);
+    let mut input = [0u8; 65_536];
+    let n = read_full(&mut rt.stdin(), &mut input)?;
     let mut mem = [0u8; 49_152];
     let text = answer(&input[..n], &mut mem);
     let bytes = text.bytes;
-    io::write_all(STDOUT_FILENO, &bytes[..text.len]);
+    rt.write_all(&bytes[..text.len])
 }

@@ -5,8 +5,9 @@ mod run;
 
 ghost use Rattle.std.specs.Prelude.{◌≡◌, length};
 
-use libc::{STDIN_FILENO, STDOUT_FILENO};
 use run::answer;
+use standard_input::read_full;
+use std::io;
 
 // A byte more than the longest input, so that a longer one is noticed.
 fn input_buffer() -> [u8; 1_048_587]
@@ -15,11 +16,11 @@ fn input_buffer() -> [u8; 1_048_587]
     [0; 1_048_587]
 }
 
-fn main() {
+fn main(rt: HostRuntime) -> io::Result<()> {
     let mut input = input_buffer();
-    let n = io::read_full(STDIN_FILENO, &mut input);
+    let n = read_full(&mut rt.stdin(), &mut input)?;
     let mut mem = [0u8; 49_152];
     let text = answer(&input[..n], &mut mem);
     let bytes = text.bytes;
-    io::write_all(STDOUT_FILENO, &bytes[..text.len]);
+    rt.write_all(&bytes[..text.len])
 }

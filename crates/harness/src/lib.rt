@@ -1,4 +1,4 @@
-// The calls that a host makes in C: a state block and a memory, or a text and a memory, each a pointer and a length.
+// The calls that a host makes: on a state block and a memory, or on a text and a memory. `harness_c` exports them to C.
 #![tactic(auto)]
 
 pub mod calls;
@@ -19,8 +19,7 @@ use srecord_write::write::write_call;
 use state::replies::{is_done, number_of};
 
 // One step: the number of the reply, and 256 times the vector that was entered.
-#[unsafe(no_mangle)]
-pub extern "C" fn step(block: &mut [u8], mem: &mut [u8]) -> u32
+pub fn step(block: &mut [u8], mem: &mut [u8]) -> u32
     ensures { called result block.new mem.new ≡ step_on block.old (lent mem.old) }
 {
     let read = opened(&*block, &*mem);
@@ -37,8 +36,7 @@ pub extern "C" fn step(block: &mut [u8], mem: &mut [u8]) -> u32
 }
 
 // A run: the number of the reply, and 256 times the steps that were done.
-#[unsafe(no_mangle)]
-pub extern "C" fn run(block: &mut [u8], mem: &mut [u8], budget: u32) -> u64
+pub fn run(block: &mut [u8], mem: &mut [u8], budget: u32) -> u64
     ensures { called result block.new mem.new ≡ run_on block.old (lent mem.old) budget }
 {
     let read = opened(&*block, &*mem);
@@ -55,60 +53,42 @@ pub extern "C" fn run(block: &mut [u8], mem: &mut [u8], budget: u32) -> u64
 }
 
 // Returns from an exception: the number of the reply.
-#[unsafe(no_mangle)]
-pub extern "C" fn rte(block: &mut [u8], mem: &mut [u8]) -> u32
+pub fn rte(block: &mut [u8], mem: &mut [u8]) -> u32
     ensures { called result block.new mem.new ≡ rte_on block.old (lent mem.old) }
 {
     rte_call(block, mem)
 }
 
 // Enters an exception, keeping the mask: the number of the reply.
-#[unsafe(no_mangle)]
-pub extern "C" fn exception(block: &mut [u8], mem: &mut [u8], vector: u8, pc: u32) -> u32
+pub fn exception(block: &mut [u8], mem: &mut [u8], vector: u8, pc: u32) -> u32
     ensures { called result block.new mem.new ≡ exception_on block.old (lent mem.old) vector pc Kept }
 {
     exception_call(block, mem, vector, pc)
 }
 
 // Enters an exception at a level: the number of the reply.
-#[unsafe(no_mangle)]
-pub extern "C" fn exception_at(
-    block: &mut [u8],
-    mem: &mut [u8],
-    vector: u8,
-    pc: u32,
-    level: u8,
-) -> u32
+pub fn exception_at(block: &mut [u8], mem: &mut [u8], vector: u8, pc: u32, level: u8) -> u32
     ensures { called result block.new mem.new ≡ exception_on block.old (lent mem.old) vector pc (To level) }
 {
     exception_at_call(block, mem, vector, pc, level)
 }
 
 // Enters an interrupt: the number of the reply.
-#[unsafe(no_mangle)]
-pub extern "C" fn interrupt(block: &mut [u8], mem: &mut [u8], vector: u8, level: u8) -> u32
+pub fn interrupt(block: &mut [u8], mem: &mut [u8], vector: u8, level: u8) -> u32
     ensures { called result block.new mem.new ≡ interrupt_on block.old (lent mem.old) vector level }
 {
     interrupt_call(block, mem, vector, level)
 }
 
 // Reads S-records into memory: the number of the reply, and 256 times the start address.
-#[unsafe(no_mangle)]
-pub extern "C" fn srecord_read(text: &[u8], mem: &mut [u8]) -> u64
+pub fn srecord_read(text: &[u8], mem: &mut [u8]) -> u64
     ensures { text_called result mem.new ≡ read_call text.now mem.old }
 {
     read_call(text, mem)
 }
 
 // Writes a range of memory as S-records: the number of the reply, and 256 times the count of bytes that were written.
-#[unsafe(no_mangle)]
-pub extern "C" fn srecord_write(
-    mem: &[u8],
-    from: u32,
-    count: u32,
-    start: u32,
-    text: &mut [u8],
-) -> u64
+pub fn srecord_write(mem: &[u8], from: u32, count: u32, start: u32, text: &mut [u8]) -> u64
     ensures { text_called result text.new ≡ write_call mem.now from count start text.old }
 {
     write_call(mem, from, count, start, text)

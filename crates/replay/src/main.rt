@@ -8,9 +8,10 @@ mod record;
 ghost use Rattle.std.specs.Prelude.{◌≡◌, ◌+◌, ◌≤◌, ◌<◌, cond, eqb, length};
 ghost use Rattle.replay.specs.Sums.{summed};
 
-use libc::{STDIN_FILENO, STDOUT_FILENO};
 use number::{long_at, wide};
 use record::record;
+use standard_input::read_full;
+use std::io;
 
 // How many records there are, how many agree, the number of the first that does not (0 where all do), and the
 // place after the last.
@@ -109,21 +110,20 @@ fn sum_of(file: &[u8]) -> u64
     sum
 }
 
-fn line(name: &[u8], n: u64) {
-    io::write_all(STDOUT_FILENO, name);
-    io::print_decimal(STDOUT_FILENO, n);
-    io::write_all(STDOUT_FILENO, b"\n");
+fn line(rt: &impl Print, name: &[u8], n: u64) -> io::Result<()> {
+    rt.write_all(name)?;
+    println!(rt; "{n}")
 }
 
-fn main() {
+fn main(rt: HostRuntime) -> io::Result<()> {
     let mut space = [0u8; 393_216];
-    let n = io::read_full(STDIN_FILENO, &mut space);
+    let n = read_full(&mut rt.stdin(), &mut space)?;
     let file = &space[..n];
     let t = replay(file);
-    line(b"records ", t.records);
-    line(b"agree ", t.agree);
-    line(b"first that differs ", t.first);
-    line(b"bytes ", n as u64);
-    line(b"bytes replayed ", t.at as u64);
-    line(b"sum ", sum_of(file));
+    line(&rt, b"records ", t.records)?;
+    line(&rt, b"agree ", t.agree)?;
+    line(&rt, b"first that differs ", t.first)?;
+    line(&rt, b"bytes ", n as u64)?;
+    line(&rt, b"bytes replayed ", t.at as u64)?;
+    line(&rt, b"sum ", sum_of(file))
 }

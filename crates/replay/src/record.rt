@@ -6,7 +6,6 @@ ghost use Rattle.replay.specs.Asked.{asked, answered};
 
 use super::number::{long_at, wide};
 use super::patch::patch;
-use check::same;
 use harness::{exception, exception_at, interrupt, rte, run, step};
 
 // Where the next record starts, and whether this one's answer is the expected one.
@@ -89,10 +88,10 @@ pub(crate) fn record(
     let answered = answers(&*head, block, mem);
     let mem_after_from = patch(file, after_from, want_block);
     let end = patch(file, mem_after_from, want_mem);
-    let same_block = same(&*block, &*want_block);
-    let same_mem = same(&*mem, &*want_mem);
-    bytes::copy(&*want_block, block);
-    bytes::copy(&*want_mem, mem);
+    let same_block = *block == *want_block;
+    let same_mem = *mem == *want_mem;
+    *block = *want_block;
+    *mem = *want_mem;
     Replayed {
         at: end,
         agrees: answered && same_block && same_mem,
