@@ -1,5 +1,5 @@
 -- A change that accumulates, done in place: its registers and its sum. Any other change is left undone.
-use Rattle.std.specs.Prelude.{ℕ, ◌+◌, ◌-◌, ◌*◌, ◌/◌, ◌%◌, Bool, true, false, List}
+use Rattle.std.specs.Prelude.{ℕ, ◌+◌, ◌-◌, ◌*◌, Bool, true, false, List}
 use Rattle.manual.specs.declared.Size.TheVariants.{Long}
 use Rattle.manual.specs.declared.Write.{Write}
 use Rattle.manual.specs.declared.Emac.{Emac}

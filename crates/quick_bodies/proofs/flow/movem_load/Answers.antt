@@ -1,0 +1,27 @@
+-- `quick_bodies::flow::load_registers` meets its contract. Assumes nothing.
+use borrow.Author.Tests.{eq-eqb, ne_eqb}
+use Rattle.quick_parts.specs.Effects.{in_place}
+use Rattle.manual.specs.Registers.{written, no_write}
+use Rattle.manual.specs.Change.{acting}
+use Rattle.instructions.specs.Line4.{movem, many}
+use Rattle.quick_bodies.proofs.flow.movem_load.Goals as goal
+
+pub returns-in-Done : goal.returns-in-Done
+unfolding in_place movem many acting written no_write
+returns-in-Done c =
+    let s = c.load_many in
+    rw (← c.plus-at.ensures, ← c.load.ensures, c.in-Value.is, eq-eqb _ _ c.if-op-eq2.true, ← c.address-a.ensures, ← c.kept_codes.ensures, ← c.coded-same.ensures, ← c.plus.ensures, ← s.ensures.0, s.ensures.1, c.in-Done.is)
+
+pub returns-in-Fault-load_many : goal.returns-in-Fault-load_many
+returns-in-Fault-load_many c =
+    rw (c.load_many.ensures.1, c.in-Fault-load_many.is)
+
+pub returns-in-Done-load_many : goal.returns-in-Done-load_many
+unfolding in_place movem many acting written no_write
+returns-in-Done-load_many c =
+    let s = c.load_many-2 in
+    rw (← c.plus-at.ensures, ← c.load.ensures, c.in-Value.is, ne_eqb _ _ c.if-op-eq2.false, eq-eqb _ _ c.if-op-ne5.false, ← c.address-a.ensures, ← c.plus-2.ensures, ← c.load-2.ensures, c.in-Value-load.is, ← c.sign_extended.ensures, ← c.plus-b.ensures, ← c.kept_codes.ensures, ← c.coded-same.ensures, ← c.plus-in-Done-load_many.ensures, ← s.ensures.0, s.ensures.1, c.in-Done-load_many.is)
+
+pub returns-in-Fault-load_many-2 : goal.returns-in-Fault-load_many-2
+returns-in-Fault-load_many-2 c =
+    rw (c.load_many-2.ensures.1, c.in-Fault-load_many-2.is)

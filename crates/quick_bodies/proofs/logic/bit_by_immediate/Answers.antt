@@ -1,0 +1,9 @@
+use Rattle.instructions.specs.Line0.{bit_by_immediate as bitByImmediateOf}
+use Rattle.instructions.specs.Line0.{bit_operation as bitOperationOf}
+use borrow.Author.Tests.{eq-eqb}
+use Rattle.quick_bodies.proofs.logic.bit_by_immediate.Goals as goal
+
+pub returns : goal.returns
+unfolding bitByImmediateOf bitOperationOf
+returns c =
+    rw (eq-eqb _ _ c.if-op-ne0.false, ← c.plus.ensures, ← c.load.ensures, c.in-Value.is, ← c.plus-2.ensures, ← c.bit_of_data.ensures) (c.changed.ensures _)
