@@ -9,13 +9,15 @@ The outcome is the answer, `result`, and all that is lent `&mut` as it is at exi
 - Its right side has names that the file brings in, parameters, and references at entry: neither the answer nor anything at exit.
   So any two outcomes that it allows are equal (demands/specs/Determined.antt).
 
-An equation may stand in a clause of its own, or with others in one, joined by ×. Three kinds of contract are other than one
+An equation may stand in a clause of its own, or with others in one, joined by ×. Four kinds of contract are other than one
 equation. docs/PROMISES.md names the functions of each kind, those and no others:
 
 - an equation, and bounds: more is said of the answer beside the equation;
 - an equation each: one for the answer and one for each thing lent, which may be said of the answer;
 - done, or left: the quick path's. What is there afterwards is as agreed, or all was left, as the answer says; so the right side
-  names the answer too. It may be said for all of what the function is not given.
+  names the answer too. It may be said for all of what the function is not given;
+- of a reader: a generic function, over any reader. What a reader gives is not determined by what was given, so its clauses say how
+  the answer, the reader and the buffer lent to it hang together.
 
 Taken for granted: that the checker proves every contract as it is written; what the language means by a contract, and that a function
 changes nothing but what is lent to it `&mut`; that a name stands for what the file's `ghost use` lines bring in by it, and that no
@@ -29,7 +31,7 @@ import re
 
 import sources
 
-KINDS = BOUNDS, EACH, LEFT = "an equation, and bounds", "an equation each", "done, or left"
+KINDS = BOUNDS, EACH, LEFT, READER = "an equation, and bounds", "an equation each", "done, or left", "of a reader"
 
 # of the quick path: the record of what is there afterwards, and what it equals, said of the same answer
 AGREED = {"Effects.after": "Effects.agreed", "Units.after_mac": "Units.agreed_mac"}
@@ -157,6 +159,9 @@ class Contract:
         self.lent = {name for name, _, mut in given if mut}
         if self.answer in self.given | self.referred:
             raise Fault("its answer has the name of a parameter")
+        if re.fullmatch(r"<\w+: Read>", self.function.generics):
+            self.kind = READER
+            return self.reader(bodies)
         if "<" in self.function.parameters or self.known.get("≡") != ("Rattle.std.specs.Prelude", "◌≡◌"):
             raise Fault("a parameter holds a reference, or ≡ is not the library's")
         bodies = [bare(tree(body)) for body in bodies]
@@ -220,6 +225,14 @@ class Contract:
             if not (named or re.fullmatch(r"[0-9][0-9A-Fa-fx_]*", word)):
                 raise Fault(f"its right side is said of {word}")
             self.says.add(self.name(word))
+
+    def reader(self, bodies):
+        """A contract of a reader, whose clauses speak of all that is there afterwards."""
+        said = {word for body in bodies for word in words(tree(body))}
+        for name in [self.answer, *(name + ".new" for name in sorted(self.lent))]:
+            if name not in said:
+                raise Fault(f"its clauses say nothing of {name}")
+        self.says |= {self.name(word) for word in said if word in self.known}
 
     def quick(self, body):
         """A contract of the quick path, which may be for all of what the function is not given."""

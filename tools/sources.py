@@ -63,7 +63,7 @@ def above(text, at):
 
 
 class Function:
-    """A function: its `path` (crate::module::name), `file`, `public`, `comment` lines, `parameters`, `contract` and `body`."""
+    """A function: its `path` (crate::module::name), `file`, `public`, `comment` lines, `generics`, `parameters`, `contract` and `body`."""
 
     def __init__(self, file, text, code, head):
         self.file, self.name = file, head.group(2)
@@ -74,6 +74,7 @@ class Function:
         self.public = head.group(1) == "pub "
         self.comment = above(text, head.start())
         start = code.index("(", head.end())
+        self.generics = code[head.end() : start].strip()
         end = closing(code, start)
         self.parameters = code[start:end]
         at = end
