@@ -88,10 +88,10 @@ class Function:
         self.body = code[opened : self.end]
 
     def proof(self):
-        """What is written of its proof: Answers.antt, or else Invariants.antt or Proof.antt; nothing where the checker finds it all."""
+        """The folder with what is written of its proof, or nothing where the checker finds it all."""
         folder = os.path.join("crates", self.crate, "proofs", *self.modules, self.name)
         files = [os.path.join(folder, name) for name in ("Answers.antt", "Invariants.antt", "Proof.antt")]
-        return next(filter(os.path.exists, files), None)
+        return folder if any(map(os.path.exists, files)) else None
 
 
 def functions():
