@@ -1,7 +1,8 @@
 # Sourced by the scripts here, in this folder: finds what a program needs, builds it and runs it. Its
-# programs are for x86-64, as the archive is. On another processor they are built for it all the same
-# and run under the toolchain's emulator; a program of `no_main` with a C `main`, linked statically,
-# runs there, and Rust's own start-up code does not. So they have this shape on every machine.
+# programs are for x86-64, as the archive and the toolchain are. On another processor they are built
+# for it all the same, over an archive that was made on x86-64, and run under the emulator of Debian's
+# qemu-user; a program of `no_main` with a C `main`, linked statically, runs there, and Rust's own
+# start-up code does not. So they have this shape on every machine.
 
 lacks() {
     echo "$1"
@@ -21,11 +22,9 @@ find_c() {
     [ -e "$("$c" -print-file-name=libc.a)" ] || lacks "there is no C library for x86-64: install $packages"
     emulator=
     [ "$(uname -m)" != x86_64 ] || return 0
-    command -v rt >/dev/null || lacks "rt, whose emulator runs programs for x86-64, is not on the PATH"
-    emulator=$(cd "$(dirname "$(rt doc)")/.." && pwd)/on/$(uname -m)/toolchain/bin/qemu-x86_64
+    emulator=$(command -v qemu-x86_64) || lacks "qemu-x86_64, which runs programs for x86-64, is not on the PATH: install qemu-user"
     # The C library copies by `rep movsb` where the processor is said to do that fast; the emulator does not.
     export QEMU_CPU=max,-erms,-fsrm
-    [ -x "$emulator" ] || lacks "$emulator, which runs programs for x86-64, is not there"
 }
 
 # Sets `rust`, the compiler's words, and `emulator`. Debian's compiler is also asked: another one that stands before it on the
@@ -47,11 +46,11 @@ find_rust() {
 # A path that was given is meant from where the script was called.
 given() { case $1 in /*) echo "$1" ;; *) echo "$OLDPWD/$1" ;; esac; }
 
-# Sets `archive`, the folder of libharness.a.
+# Sets `archive`, the folder of libharness_c.a.
 find_archive() {
-    archive=../target/staticlib
+    archive=../crates/harness_c/out
     [ -z "${HARNESS_LIB:-}" ] || archive=$(given "$HARNESS_LIB")
-    [ -f "$archive/libharness.a" ] || lacks "$archive/libharness.a is not there: make it with 'rt staticlib harness', or give its folder in HARNESS_LIB"
+    [ -f "$archive/libharness_c.a" ] || lacks "$archive/libharness_c.a is not there: make it with 'rt lib' in crates/harness_c, or give its folder in HARNESS_LIB"
     archive=$(cd "$archive" && pwd)
 }
 
@@ -68,7 +67,7 @@ find_original() {
 # files in order finds it there.
 build() {
     mkdir -p "$2"
-    "${rust[@]}" --crate-type rlib --crate-name host src/lib.rs ${archive:+-L native="$archive" -l static=harness} -o "$2/libhost.rlib"
+    "${rust[@]}" --crate-type rlib --crate-name host src/lib.rs ${archive:+-L native="$archive" -l static=harness_c} -o "$2/libhost.rlib"
     if [ -n "${original:-}" ]; then
         printf '#[path = "%s"]\nmod cpu;\n' "$original" >"$2/original.rs"
         set -- "$@" --cfg original
@@ -79,5 +78,5 @@ build() {
 # build_c PROGRAM FOLDER [PART..]: compiles srecords/PROGRAM.c, and the parts beside it, over the archive to FOLDER/PROGRAM.
 build_c() {
     mkdir -p "$2"
-    "$c" -O2 -Wall -Wextra -static "srecords/$1.c" "${@:3}" "$archive/libharness.a" -o "$2/$1"
+    "$c" -O2 -Wall -Wextra -static "srecords/$1.c" "${@:3}" "$archive/libharness_c.a" -o "$2/$1"
 }

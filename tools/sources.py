@@ -26,6 +26,31 @@ def closing(text, at):
     raise ValueError(f"no {closed} closes the bracket at {at}")
 
 
+def uses(text):
+    """What the `use` lines of a Rattle file bring in: by its name there, its path."""
+    found = {}
+
+    def bring(path, items):
+        # the items between commas that stand in no bracket
+        depth, start = 0, 0
+        for i, c in enumerate(items + ","):
+            depth += (c == "{") - (c == "}")
+            if c != "," or depth:
+                continue
+            item, start = items[start:i].strip(), i + 1
+            if item.endswith("}"):
+                inner, _, rest = item.partition("{")
+                bring(path + inner.strip(), rest[:-1])
+            elif item:
+                full, _, alias = item.partition(" as ")
+                full = (path + full).removesuffix("::self")
+                found[alias.strip() or full.rsplit("::", 1)[-1]] = full
+
+    for line in re.findall(r"^(?:pub )?use ([^;]*);", text, re.M):
+        bring("", " ".join(line.split()))
+    return found
+
+
 def above(text, at):
     """The comment lines directly above the line at `at`, past its attributes."""
     lines = text[:at].split("\n")[:-1]
@@ -38,7 +63,7 @@ def above(text, at):
 
 
 class Function:
-    """A function: its `path` (crate::module::name), `file`, `public`, `comment` lines, `parameters`, `contract` and `body`."""
+    """A function: its `path` (crate::module::name), `file`, `public`, `comment` lines, `generics`, `parameters`, `contract` and `body`."""
 
     def __init__(self, file, text, code, head):
         self.file, self.name = file, head.group(2)
@@ -49,10 +74,11 @@ class Function:
         self.public = head.group(1) == "pub "
         self.comment = above(text, head.start())
         start = code.index("(", head.end())
+        self.generics = code[head.end() : start].strip()
         end = closing(code, start)
         self.parameters = code[start:end]
         at = end
-        # each clause has braces of its own; what stands before the first is the answer's type
+        # each clause has a name or none and braces of its own; what stands before the first is the answer's type
         while clause := re.compile(r"[^{]*?\b(?:requires|ensures|ghost)\b[^{]*\{").match(code, at):
             at = closing(code, clause.end() - 1)
         self.contract = code[end:at]
@@ -62,9 +88,10 @@ class Function:
         self.body = code[opened : self.end]
 
     def proof(self):
-        """Its Proof.antt, or nothing where the checker needs none."""
-        file = os.path.join("crates", self.crate, "proofs", *self.modules, self.name, "Proof.antt")
-        return file if os.path.exists(file) else None
+        """The folder with what is written of its proof, or nothing where the checker finds it all."""
+        folder = os.path.join("crates", self.crate, "proofs", *self.modules, self.name)
+        files = [os.path.join(folder, name) for name in ("Answers.antt", "Invariants.antt", "Proof.antt")]
+        return folder if any(map(os.path.exists, files)) else None
 
 
 def functions():
@@ -85,17 +112,20 @@ class Edit:
         # the toolchain reads those of must-fail, whose files are the crate's own; tools/wrong-definitions the others
         base = f"crates/{crate}" if folder == "must-fail" else "crates"
         self.label, self.places, self.faults = f"{crate}/{name}", [], []
-        file = old = None
+        file, old, texts = None, None, {}
         for line in open(path).read().split("\n"):
             if line.startswith("file: "):
                 file = os.path.join(base, line[len("file: ") :])
             elif line.startswith("old: "):
                 old = line[len("old: ") :]
             elif line.startswith("new:") and old is not None:
-                text = open(file).read() if os.path.exists(file) else ""
+                given = open(file).read() if os.path.exists(file) else ""
+                # a further text is one of what the earlier ones made
+                text = texts.get(file, given)
                 if text.count(old) != 1:
                     self.faults.append(f"'{old.strip()}' is {text.count(old)} times in {file}")
-                self.places.append((file, text.find(old), old))
+                texts[file] = text.replace(old, line[len("new:") :].removeprefix(" "))
+                self.places.append((file, given.find(old), old))
                 old = None
 
 
