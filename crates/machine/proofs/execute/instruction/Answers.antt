@@ -67,4 +67,4 @@ returns-in-123-to-126 c = of_line _ _ _ _ _ _ _ _ _ 15 (omega arith) (omega arit
 
 pub returns-in_default : goal.returns-in_default
 unfolding move_line
-returns-in_default c = of_line_0 _ _ _ _ _ _ _ _ _ (⊎_elim (λ w. inl (omega arith)) (λ w. inr (omega arith)) c.in_default.branch) c.instruction-in_default.ensures
+returns-in_default c = of_line_0 _ _ _ _ _ _ _ _ _ ? c.instruction-in_default.ensures
