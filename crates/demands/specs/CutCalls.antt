@@ -254,6 +254,7 @@ module _ (b : List ℕ) (l : Lent) where
           few (inr (inl z)) = inr (inl z)
           few (inr (inr (inl z))) = absurd (omega (arith, z, low))
           few (inr (inr (inr (inl z)))) = absurd (omega (arith, z, low))
+          few (inr (inr (inr (inr never)))) = elim never [ ]
 
   module _ (n : ℕ) where
     abbrev c : Called

@@ -140,6 +140,7 @@ module _ (s : Cpu) (l : Lent) where
       by false h g = refl
       by true h (inl e) = absurd (((exact.meanings).usable l).0 (((exact.meanings).ready s l).0 h).0 (((exact.reply_1).run_1 n s l).0 e))
       by true h (inr (inl e)) = absurd (false≢true (sym (((exact.reply_2).run_2 n s l).0 e).1 ∙ first-admitted s l h))
+      by true h (inr (inr never)) = elim never [ ]
 
   given : (n : ℕ) → is_done (first_refusal s l) ≡ false → Given1Or2 (run n s l)
   given n h = rw (runs.first n s l h) (by ((exact.meanings).first_of s l))

@@ -132,6 +132,7 @@ module _ (l : Lent) (inner : ℕ) (few : inner ≤ 7) (one : (inner ≡ 1) ↔ T
           by (inl x) (inr z) = omega (arith, x, e, z)
           by (inr (inl x)) (inl z) = omega (arith, x, e, z)
           by (inr (inl x)) (inr z) = omega (arith, x, e, z)
+          by (inr (inr never)) w = elim never [ ]
 
   -- the block is none: n is 8 or 9
   not-block : (n : ℕ) → 8 ≤ n → OnBlock n l n inner
@@ -394,12 +395,14 @@ module _ (b : List ℕ) where
     has_row n on (inl r) (inr (inr (inl e))) = absurd (never_2 b ((exact.reply_2).step_2 (read_block b).cpu l) e)
     has_row n on (inl r) (inr (inr (inr (inl e)))) = inr (inr (inr (inl ((on.gives 3 (inr (omega arith, omega arith))).1 (r, e)))))
     has_row n on (inl r) (inr (inr (inr (inr (inl e))))) = inr (inr (inr (inr (inl ((on.gives 4 (inr (omega arith, omega arith))).1 (r, e))))))
+    has_row n on (inl r) (inr (inr (inr (inr (inr never))))) = elim never [ ]
     has_row n on (inr (inl r)) w =
         by-lt 0x100_0000 (length l.storage)
         (λ o. inr (inl (on.gives_1.1 (inr r, o))))
         (λ o. inr (inr (inl (on.gives_2.1 (r, ((exact.meanings).usable l).1 (λ x. omega arith))))))
     has_row n on (inr (inr (inl r))) w = inr (inr (inr (inr (inr (inl (on.gives_8.1 r))))))
     has_row n on (inr (inr (inr (inl r)))) w = inr (inr (inr (inr (inr (inr (inl (on.gives_9.1 r)))))))
+    has_row n on (inr (inr (inr (inr never)))) w = elim never [ ]
 
     pub step-table : StepTable b l
     step-table =

@@ -27,7 +27,7 @@ use Rattle.manual.specs.declared.Action.TheVariants.{Nothing, Store, StoreMany, 
 use Rattle.manual.specs.declared.Change.{Change}
 use Rattle.manual.specs.Word.{bytes}
 use Rattle.manual.specs.Memory.{Memory, storage_of, access, taken, first_fault, found, load, number_in, number_at}
-use Rattle.manual.specs.Address.{operand, extension, immediate, locate, moved, fetch, value, source, reached, control, ◌then◌, destination, destination_of}
+use Rattle.manual.specs.Address.{operand, extension, immediate, locate, fetch, value, source, reached, control, ◌then◌, destination, destination_of}
 use Rattle.manual.specs.Reply.{number_of, fault_reply}
 use Rattle.manual.specs.Change.{done, store, acting, enter_after, enter, illegal, privilege, refused, reading, reaching, locating, put, put_to, updating, Result}
 use Rattle.demands.specs.AccessLaws.{here_or_not, taken_or_not}

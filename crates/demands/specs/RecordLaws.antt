@@ -4,7 +4,6 @@ use Prim.{Unit, tt}
 use Rattle.std.proofs.Common.{sym, ap, ◌∙◌, append_assoc, arith, ltb-true, ltb-false, lt-ltb, le-ltb, le-leb, eq-eqb, ne_eqb, length-append, take_at}
 use Rattle.std.proofs.Math.Nat.{div-div-eq-div-mul}
 use Rattle.std.proofs.lemmas.Bool.{lt-leb}
-use Rattle.srecord.specs.declared.Kind.TheVariants as kinds
 use Rattle.srecord.specs.Records.{letter_s, kind_of, worth, is_hex, unhexed, total}
 use Rattle.srecord.specs.Reading.{Said, Data, End, said, checked, meaning, lines, ended, bare}
 use Rattle.srecord.specs.Writing.{digit, hexed, four, sealed, line_of}

@@ -123,6 +123,7 @@ module _ (s : Cpu) (l : Lent) (o : Outcome) where
       by false e (inl z) = absurd (eqb-false first 0 e z)
       by false e (inr (inl z)) = same_of ks z one
       by false e (inr (inr (inl z))) = same_of ks z two
+      by false e (inr (inr (inr never))) = elim never [ ]
 
   -- a reply that only they give
   pub checked-first : (k : ℕ) → (0 ≡ k → ⊥) → (numbered o ≡ k → ⊥) → (numbered (checked s l o) ≡ k) ↔ (first ≡ k)
@@ -147,6 +148,7 @@ module _ (s : Cpu) (l : Lent) (o : Outcome) where
       by false e (inl z) = absurd (eqb-false first 0 e z)
       by false e (inr (inl z)) = (λ h. absurd (n1 (sym z ∙ h)), λ h. absurd (false≢true h.0))
       by false e (inr (inr (inl z))) = (λ h. absurd (n2 (sym z ∙ h)), λ h. absurd (false≢true h.0))
+      by false e (inr (inr (inr never))) = elim never [ ]
 
 -- ---- what an entry, a return and an instruction's action answer
 
@@ -267,5 +269,6 @@ all_to k [] = true
 all_to k (x ∷ l) = leb x k && all_to k l
 
 pub at_most : (k n : ℕ) (l : List ℕ) → all_to k l ≡ true → OneOf l n → n ≤ k
+at_most k n [] a never = elim never [ ]
 at_most k n (x ∷ l) a (inl e) = omega (arith, (iff_le x k).0 ((iff_both (leb x k) (all_to k l)).0 a).0)
 at_most k n (x ∷ l) a (inr h) = at_most k n l ((iff_both (leb x k) (all_to k l)).0 a).1 h

@@ -248,6 +248,7 @@ module _ (budget : ℕ) (s : Cpu) (l : Lent) where
       by false d (inl z) = absurd ((laws.iff_not_eq (number_of (first_refusal s l)) 0).0 d z)
       by false d (inr (inl z)) = absurd (n1 (sym z ∙ sym (number-first d) ∙ e))
       by false d (inr (inr (inl z))) = absurd (n2 (sym z ∙ sym (number-first d) ∙ e))
+      by false d (inr (inr (inr never))) = elim never [ ]
 
   -- any other refusal is that of the step where it leaves off
   of_run_step : (k : ℕ) → (0 ≡ k → ⊥) → (1 ≡ k → ⊥) → (2 ≡ k → ⊥) → {X : Type 0}
@@ -296,6 +297,7 @@ module _ (budget : ℕ) (s : Cpu) (l : Lent) where
       by false d (inl z) = inl (number-first d ∙ z)
       by false d (inr (inl z)) = inr (inl (number-first d ∙ z))
       by false d (inr (inr (inl z))) = inr (inr (inl (number-first d ∙ z)))
+      by false d (inr (inr (inr never))) = elim never [ ]
 
   pub of_run_5 : number ≡ 5 → ⊥
   of_run_5 = no_5 number of_run

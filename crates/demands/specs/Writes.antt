@@ -81,11 +81,11 @@ read_low b a (suc n) v inside =
 
 length_all : (b : Storage) (ps : List Put) → length (stored_all b ps) ≡ length b
 length_all b [] = refl
-length_all b (p ∷ ps) = length_all _ ps ∙ length_store b p.address p.count p.value
+length_all b (p ∷ ps) = length_all (store_at b p.address p.count p.value) ps ∙ length_store b p.address p.count p.value
 
 byte_all : (b : Storage) (ps : List Put) (j : ℕ) → OutsideAll ps j → get_or (stored_all b ps) j 0 ≡ get_or b j 0
 byte_all b [] j out = refl
-byte_all b (p ∷ ps) j out = byte_all _ ps j out.1 ∙ byte_store b p.address p.count p.value j out.0
+byte_all b (p ∷ ps) j out = byte_all (store_at b p.address p.count p.value) ps j out.1 ∙ byte_store b p.address p.count p.value j out.0
 
 -- p and each of the stores are apart; each store and those after it are
 abbrev Clear : Put → List Put → Type 0
@@ -106,11 +106,12 @@ clear-out p [] j h c = tt
 clear-out p (q ∷ qs) j h c = (⊎_elim (λ k. inl (omega arith)) (λ k. inr (omega arith)) c.0, clear-out p qs j h c.1)
 
 there-all : (b : Storage) (ps : List Put) (p : Put) → Apart ps → Within (length b) ps → Among p ps → value_at (stored_all b ps) p.address p.count ≡ p.value % 256 ^ p.count
+there-all b [] p apart within never = elim never [ ]
 there-all b (p ∷ ps) p₀ apart within this =
     value_same _ (store_at b p.address p.count p.value) p.address p.count (λ j h. byte_all _ ps (p.address + j) (clear-out p ps j h apart.0))
     ∙ read_low b p.address p.count p.value within.0
 there-all b (q ∷ ps) p apart within (later h) =
-    there-all _ ps p apart.1 (rw (length_store b q.address q.count q.value) within.1) h
+    there-all (store_at b q.address q.count q.value) ps p apart.1 (rw (length_store b q.address q.count q.value) within.1) h
 
 -- ---- the stores of an effect are inside where they were done, and apart
 
