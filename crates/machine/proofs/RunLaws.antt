@@ -93,6 +93,11 @@ pub record Turn (b k v : ℕ) (whole : Advance) (g : List ℕ) (pc sr : ℕ) (e 
   pub ready : is_done (first_refusal (with_parts g pc sr e rest) l) ≡ true
   pub inv : progress (b - k) k v (with_parts g pc sr e rest) l ≡ whole
 
+pub turned : {b k v : ℕ} {whole : Advance} {g : List ℕ} {pc sr : ℕ} {e : Emac} {rest : Cpu} {l : Lent} → k < b
+    → is_done (first_refusal (with_parts g pc sr e rest) l) ≡ true → progress (b - k) k v (with_parts g pc sr e rest) l ≡ whole
+    → Turn b k v whole g pc sr e rest l
+turned more ready inv = record { more = more; ready = ready; inv = inv }
+
 module _ {b k v : ℕ} {whole : Advance} {g : List ℕ} {pc sr : ℕ} {e : Emac} {rest : Cpu} {l : Lent} (t : Turn b k v whole g pc sr e rest l) where
   abbrev now : Cpu
   now = with_parts g pc sr e rest
@@ -130,6 +135,10 @@ pub record Fetched (b k v : ℕ) (whole : Advance) (g : List ℕ) (pc sr : ℕ) 
   pub going : rest.stopped ≡ false
   pub word : load (memory_of l) pc Word ≡ Value op
   pub is-row : row ≡ row_of op
+
+pub fetched_at : {b k v : ℕ} {whole : Advance} {g : List ℕ} {pc sr : ℕ} {e : Emac} {rest : Cpu} {l : Lent} {op row : ℕ} → Turn b k v whole g pc sr e rest l
+    → rest.stopped ≡ false → load (memory_of l) pc Word ≡ Value op → row ≡ row_of op → Fetched b k v whole g pc sr e rest l op row
+fetched_at turn going word is-row = record { turn = turn; going = going; word = word; is-row = is-row }
 
 module _ {b k v : ℕ} {whole : Advance} {g : List ℕ} {pc sr : ℕ} {e : Emac} {rest : Cpu} {l : Lent} {op row : ℕ} (t : Fetched b k v whole g pc sr e rest l op row) where
   abbrev here : Cpu

@@ -1,6 +1,6 @@
 -- How far a run has come, as its loop counts: the steps that were done before, and the vector that the last of them entered.
 -- `RunLaws` shows that this is what the definition's run and step say. Assumes nothing.
-use Rattle.std.specs.Prelude.{ℕ, zero, suc, ◌+◌, Bool, true, false, cond}
+use Rattle.std.specs.Prelude.{ℕ, zero, suc, ◌+◌, cond}
 use Rattle.manual.specs.declared.Cpu.{Cpu}
 use Rattle.manual.specs.declared.Reply.{Reply}
 use Rattle.manual.specs.declared.Reply.TheVariants.{Done}

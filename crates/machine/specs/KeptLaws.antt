@@ -1,6 +1,6 @@
 -- Every step keeps a state admitted: a change names no status register, and each action sets one, or the EMAC, by a definition that
 -- keeps it. Assumes nothing.
-use Rattle.std.specs.Prelude.{◌≡◌, refl, true, false}
+use Rattle.std.specs.Prelude.{◌≡◌, true}
 use Prim.Native.Nat.{ℕ}
 use Rattle.manual.specs.declared.Cpu.{Cpu}
 use Rattle.manual.specs.declared.Emac.{Emac}
@@ -10,7 +10,7 @@ use Rattle.manual.specs.declared.Action.{Action}
 use Rattle.manual.specs.declared.Action.TheVariants.{Nothing, Store, StoreMany, LoadMany, Enter, Return, Status, Stop, PushStatus, Halt, SetOther, Accumulate, SetAcc, SetExt, SetMacsr, SetMask, CopyAcc, ClearAcc, MoveControl, Refuse}
 use Rattle.manual.specs.declared.Change.{Change}
 use Rattle.manual.specs.Word.{minus}
-use Rattle.manual.specs.Registers.{address_of, with_address, with_registers, with_emac, applied}
+use Rattle.manual.specs.Registers.{address_of, with_address, with_emac, applied}
 use Rattle.manual.specs.Memory.{Memory, storing, access_many, loaded_many}
 use Rattle.manual.specs.Admitted.{admitted, emac_admitted}
 use Rattle.manual.specs.Exceptions.{set_sr}

@@ -1,9 +1,9 @@
-use mathlib.Core.Logic.{⊎_elim, inl, inr}
+use mathlib.Core.Logic.{inl, inr}
 use native.Mathlib.Omega.{arith}
 use Rattle.lines0to3.specs.MoveLines.{move_line}
 use Rattle.machine.proofs.ExecuteLaws.{of_line, of_line_0}
-use borrow.Author.Rules.{rules}
 use Rattle.machine.proofs.execute.instruction.Goals as goal
+use Rattle.machine.proofs.execute.instruction.Goals.{in_default-via-then-row-lt79+then-row-lt14, in_default-via-else-row-lt79+else-row-lt89+else-row-lt102+else-row-lt106+else-row-lt110+else-row-lt120+else-row-lt123+else-row-lt127}
 
 pub returns-in-14-to-15 : goal.returns-in-14-to-15
 unfolding move_line
@@ -67,4 +67,10 @@ returns-in-123-to-126 c = of_line _ _ _ _ _ _ _ _ _ 15 (omega arith) (omega arit
 
 pub returns-in_default : goal.returns-in_default
 unfolding move_line
-returns-in_default c = of_line_0 _ _ _ _ _ _ _ _ _ ? c.instruction-in_default.ensures
+returns-in_default c =
+    of_line_0 _ _ _ _ _ _ _ _ _
+    (elim c.in_default.branch [
+      | in_default-via-then-row-lt79+then-row-lt14 w ↦ inl (omega arith)
+      | in_default-via-else-row-lt79+else-row-lt89+else-row-lt102+else-row-lt106+else-row-lt110+else-row-lt120+else-row-lt123+else-row-lt127 w ↦ inr (omega arith)
+    ])
+    c.instruction-in_default.ensures

@@ -1,7 +1,6 @@
 -- `machine::perform::perform` meets its contract. Assumes nothing.
 use Rattle.memory.specs.MemoryLaws.{not-stored}
 use Rattle.instructions.specs.Perform.{perform as performOf}
-use borrow.Author.Rules.{rules}
 use Rattle.machine.proofs.perform.perform.Goals as goal
 
 pub returns-in-Nothing : goal.returns-in-Nothing

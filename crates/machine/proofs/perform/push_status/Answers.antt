@@ -1,7 +1,6 @@
 -- `machine::perform::push_status` meets its contract. Assumes nothing.
 use Rattle.memory.specs.MemoryLaws.{not-stored}
 use Rattle.instructions.specs.Perform.{status_pushed as statusPushedOf}
-use borrow.Author.Rules.{rules}
 use Rattle.machine.proofs.perform.push_status.Goals as goal
 
 pub returns-in-Done : goal.returns-in-Done

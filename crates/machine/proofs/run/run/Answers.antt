@@ -1,9 +1,7 @@
 -- `machine::run::run` meets its contract. Assumes nothing.
 use mathlib.Core.Path.{sym, ◌∙◌}
-use borrow.Author.Tests.{not-true, not-false}
 use Rattle.instructions.specs.Run.{run as run_of}
 use Rattle.rows.specs.TopLaws.{top_sound}
-use borrow.Author.Rules.{rules}
 use Rattle.machine.proofs.RunLaws.{run_is}
 use Rattle.machine.proofs.run.run.Goals as goal
 

@@ -1,9 +1,7 @@
 -- `machine::run::step` meets its contract. Assumes nothing.
 use mathlib.Core.Path.{sym, ◌∙◌}
-use borrow.Author.Tests.{not-true, not-false}
 use Rattle.instructions.specs.Step.{step as step_of}
 use Rattle.rows.specs.TopLaws.{empty_sound}
-use borrow.Author.Rules.{rules}
 use Rattle.machine.proofs.StepLaws.{step_is}
 use Rattle.machine.proofs.run.step.Goals as goal
 

@@ -1,4 +1,3 @@
-use borrow.Author.Rules.{rules}
 use Rattle.machine.proofs.turn.performed.Goals as goal
 
 pub returns : goal.returns

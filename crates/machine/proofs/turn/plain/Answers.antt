@@ -1,7 +1,6 @@
 use Rattle.manual.specs.Emac.{emac_of}
 use Rattle.instructions.specs.Step.{of_row}
 use Rattle.machine.proofs.TurnLaws.{tried-again}
-use borrow.Author.Rules.{rules}
 use Rattle.machine.proofs.turn.plain.Goals as goal
 
 pub returns-in-Done : goal.returns-in-Done
