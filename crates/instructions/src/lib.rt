@@ -1,3 +1,2 @@
 // The instructions: their definition stands in specs/.
 #![tactic(auto)]
-

@@ -1,7 +1,6 @@
 // The data of S-records: what the definition in specs/ speaks of, and what the crates above pass around.
 #![tactic(auto)]
 
-
 // The answers to a text that is read and to a range that is written.
 #[derive(Clone, Copy)]
 pub enum TextReply {
