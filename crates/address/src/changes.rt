@@ -1,6 +1,6 @@
 // The parts that an instruction's change is made of.
 ghost use Rattle.std.specs.Prelude.{◌≡◌};
-ghost use Rattle.manual.specs.Change.{done as done_of, store as store_of, acting as actingOf, enter_after, enter as enterOf, illegal as illegalOf, privilege as privilegeOf, refuse as refuseOf, refused as refusedOf, jump as jumpOf, push as pushOf, put as put_of, put_to};
+ghost use Rattle.manual.specs.Change.{done as done_of, store as store_of, acting as acting_of, enter_after, enter as enter_of, illegal as illegal_of, privilege as privilege_of, refuse as refuse_of, refused as refused_of, jump as jump_of, push as push_of, put as put_of, put_to};
 ghost use Rattle.manual.specs.Reply.{fault_reply};
 
 use manual::{Action, Change, Destination, Fault, Place, Reply, Size, Write};
@@ -37,7 +37,7 @@ pub fn store(next: u32, codes: u32, first: Write, second: Write, at: u32, z: Siz
 
 // A change with an action, and the flags as they were.
 pub fn acting(sr: u16, next: u32, first: Write, action: Action) -> Change
-    ensures { result ≡ actingOf sr next first action }
+    ensures { result ≡ acting_of sr next first action }
 {
     let codes = kept_codes(sr);
     let none = no_write();
@@ -59,27 +59,27 @@ pub fn enter_after(first: Write, sr: u16, vector: u8, at: u32) -> Change
 
 // A change that enters a vector and does nothing else.
 pub fn enter(sr: u16, vector: u8, at: u32) -> Change
-    ensures { result ≡ enterOf sr vector at }
+    ensures { result ≡ enter_of sr vector at }
 {
     enter_after(no_write(), sr, vector, at)
 }
 
 // A change that enters vector 4 with the PC of the word.
 pub fn illegal(at: u32, sr: u16) -> Change
-    ensures { result ≡ illegalOf at sr }
+    ensures { result ≡ illegal_of at sr }
 {
     enter(sr, 4, at)
 }
 
 // A change that enters vector 8 with the PC of the word.
 pub fn privilege(at: u32, sr: u16) -> Change
-    ensures { result ≡ privilegeOf at sr }
+    ensures { result ≡ privilege_of at sr }
 {
     enter(sr, 8, at)
 }
 
 fn refuse(n: Reply) -> Change
-    ensures { result ≡ refuseOf n }
+    ensures { result ≡ refuse_of n }
 {
     let none = no_write();
     Change {
@@ -93,14 +93,14 @@ fn refuse(n: Reply) -> Change
 
 // The refusal with the reply to a fault.
 pub fn refused(x: Fault) -> Change
-    ensures { result ≡ refusedOf x }
+    ensures { result ≡ refused_of x }
 {
     refuse(fault_reply(x))
 }
 
 // A change of the PC alone.
 pub fn jump(sr: u16, next: u32) -> Change
-    ensures { result ≡ jumpOf sr next }
+    ensures { result ≡ jump_of sr next }
 {
     let none = no_write();
     done(next, kept_codes(sr), none, none)
@@ -108,7 +108,7 @@ pub fn jump(sr: u16, next: u32) -> Change
 
 // A change that pushes a long, and goes on at `next`.
 pub fn push(g: &[u32; 16], sr: u16, next: u32, v: u32) -> Change
-    ensures { result ≡ pushOf g.now sr next v }
+    ensures { result ≡ push_of g.now sr next v }
 {
     let sp = minus(address(g, 7), 4);
     store(

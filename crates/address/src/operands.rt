@@ -1,7 +1,7 @@
 // Operands: their extension words, where they are and what stands there.
 ghost use Rattle.std.specs.Prelude.{◌≡◌, ◌+◌, ◌-◌, ◌*◌, ◌/◌, ◌%◌, ◌^◌, ◌≤◌, ◌<◌};
 ghost use Rattle.manual.specs.Memory.{mapped};
-ghost use Rattle.manual.specs.Address.{operand as operand_of, extension as extension_of, index as index_of, indexed as indexedOf, immediate as immediate_of, locate as locateOf, moved as movedOf, fetch as fetchOf, value as value_of, reached as reachedOf, control as controlOf, source as source_of, destination as destination_of};
+ghost use Rattle.manual.specs.Address.{operand as operand_of, extension as extension_of, index as index_of, indexed as indexed_of, immediate as immediate_of, locate as locate_of, moved as moved_of, fetch as fetch_of, value as value_of, reached as reached_of, control as control_of, source as source_of, destination as destination_of};
 
 use manual::{Destination, Got, Operand, Place, Reached, Size, Source, Write};
 use memory::load;
@@ -75,14 +75,14 @@ fn index(g: &[u32; 16], w: u32) -> u32
 
 // The address that a base and a brief extension word name.
 pub fn indexed(g: &[u32; 16], base: u32, w: u32) -> u32
-    ensures { result ≡ indexedOf g.now base w }
+    ensures { result ≡ indexed_of g.now base w }
 {
     plus(plus(base, sign_extended(Size::Byte, w)), index(g, w))
 }
 
 // The place of an operand, or the fault of its extension words.
 pub fn locate(g: &[u32; 16], mem: &[u8], pc: u32, o: Operand, z: Size) -> Place
-    ensures { result ≡ locateOf g.now (mapped mem.now) pc o z }
+    ensures { result ≡ locate_of g.now (mapped mem.now) pc o z }
 {
     match o {
         Operand::Data(r) => Place::D(r),
@@ -140,7 +140,7 @@ fn immediate(mem: &[u8], pc: u32, z: Size) -> Place
 
 // What (An)+ and -(An) write to their register; no write for any other operand.
 pub fn moved(g: &[u32; 16], o: Operand, z: Size) -> Write
-    ensures { result ≡ movedOf g.now o z }
+    ensures { result ≡ moved_of g.now o z }
 {
     match o {
         Operand::PostIncrement(r) => write_address(r, plus(address(g, r), bytes(z))),
@@ -151,7 +151,7 @@ pub fn moved(g: &[u32; 16], o: Operand, z: Size) -> Write
 
 // The value at a place, or the fault.
 pub fn fetch(g: &[u32; 16], mem: &[u8], p: Place, z: Size) -> Got
-    ensures { result ≡ fetchOf g.now (mapped mem.now) p z }
+    ensures { result ≡ fetch_of g.now (mapped mem.now) p z }
 {
     match p {
         Place::D(r) => Got::Value(cut(z, data(g, r))),
@@ -170,7 +170,7 @@ pub fn value(g: &[u32; 16], mem: &[u8], pc: u32, o: Operand, z: Size) -> Got
 }
 
 fn reached(p: Place) -> Reached
-    ensures { result ≡ reachedOf p }
+    ensures { result ≡ reached_of p }
 {
     match p {
         Place::M(a) => Reached::At(Got::Value(a)),
@@ -181,7 +181,7 @@ fn reached(p: Place) -> Reached
 
 // The address of a control operand, or that the mode has none.
 pub fn control(g: &[u32; 16], mem: &[u8], pc: u32, o: Operand) -> Reached
-    ensures { result ≡ controlOf g.now (mapped mem.now) pc o }
+    ensures { result ≡ control_of g.now (mapped mem.now) pc o }
 {
     match o {
         Operand::PostIncrement(_) => Reached::NoAddress,

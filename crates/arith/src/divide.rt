@@ -2,7 +2,7 @@
 ghost use Rattle.std.specs.Prelude.{◌≡◌, true, ◌<◌, nat_abs};
 ghost use Rattle.manual.specs.Word.{signed};
 ghost use Rattle.manual.specs.declared.Size.TheVariants.{Long};
-ghost use Rattle.manual.specs.Divide.{no_quotient, quotient as quotient_of, signed_quotient, word_quotient, signed_word_quotient, overflowCodes};
+ghost use Rattle.manual.specs.Divide.{no_quotient, quotient as quotient_of, signed_quotient, word_quotient, signed_word_quotient, overflow_codes};
 
 use manual::{Quotient, Size};
 use word::flags::codes;
@@ -115,7 +115,7 @@ pub fn signed_word_quotient(a: u32, b: u32) -> Quotient
 
 // The flags of an overflow: the quotient is too large.
 pub fn overflow_codes(sr: u16) -> u32
-    ensures { result ≡ overflowCodes sr }
+    ensures { result ≡ overflow_codes sr }
 {
     codes(sr / 16 % 2 == 1, sr / 8 % 2 == 1, false, true, false)
 }

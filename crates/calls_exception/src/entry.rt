@@ -2,7 +2,7 @@
 ghost use Rattle.std.specs.Prelude.{◌≡◌};
 ghost use Rattle.manual.specs.Reply.{outcome};
 ghost use Rattle.manual.specs.Lent.{lent};
-ghost use Rattle.manual.specs.Exceptions.{level_taken, masked as maskedOf, exception as exceptionOf, interrupt as interruptOf, rte as rteOf};
+ghost use Rattle.manual.specs.Exceptions.{level_taken, masked as masked_of, exception as exception_of, interrupt as interrupt_of, rte as rte_of};
 
 use exceptions::entry::{entered, refusal, returned};
 use manual::{Cpu, Level, Reply, Stepped};
@@ -20,7 +20,7 @@ fn level_taken(level: Level) -> bool
 
 // Enters an exception at a level, or keeping the mask.
 pub fn exception(cpu: Cpu, mem: &mut [u8], vector: u8, pc: u32, level: Level) -> Stepped
-    ensures { outcome result mem.new ≡ exceptionOf cpu (lent mem.old) vector pc level }
+    ensures { outcome result mem.new ≡ exception_of cpu (lent mem.old) vector pc level }
 {
     let first = first_refusal(cpu, &*mem);
     if !is_done(first) {
@@ -34,14 +34,14 @@ pub fn exception(cpu: Cpu, mem: &mut [u8], vector: u8, pc: u32, level: Level) ->
 
 // Level 7 is never masked.
 fn masked(sr: u16, level: u8) -> bool
-    ensures { result ≡ maskedOf sr level }
+    ensures { result ≡ masked_of sr level }
 {
     (level < 7) & (level as u16 <= sr / 0x100 % 8)
 }
 
 // Enters an interrupt, unless it is masked.
 pub fn interrupt(cpu: Cpu, mem: &mut [u8], vector: u8, level: u8) -> Stepped
-    ensures { outcome result mem.new ≡ interruptOf cpu (lent mem.old) vector level }
+    ensures { outcome result mem.new ≡ interrupt_of cpu (lent mem.old) vector level }
 {
     let first = first_refusal(cpu, &*mem);
     if !is_done(first) {
@@ -58,7 +58,7 @@ pub fn interrupt(cpu: Cpu, mem: &mut [u8], vector: u8, level: u8) -> Stepped
 
 // Returns from an exception.
 pub fn rte(cpu: Cpu, mem: &[u8]) -> Stepped
-    ensures { outcome result mem.now ≡ rteOf cpu (lent mem.now) }
+    ensures { outcome result mem.now ≡ rte_of cpu (lent mem.now) }
 {
     let first = first_refusal(cpu, mem);
     if !is_done(first) {

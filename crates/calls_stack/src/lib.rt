@@ -4,7 +4,7 @@
 ghost use Rattle.std.specs.Prelude.{◌≡◌};
 ghost use Rattle.manual.specs.Reply.{outcome};
 ghost use Rattle.manual.specs.Lent.{lent};
-ghost use Rattle.manual.specs.Exceptions.{push32 as push32Of, not_popped, pop32 as pop32Of};
+ghost use Rattle.manual.specs.Exceptions.{push32 as push32_of, not_popped, pop32 as pop32_of};
 
 use exceptions::entry::{faulted, refusal};
 use manual::{Cpu, Got, Popped, Reply, Size, Stepped, Stored};
@@ -16,7 +16,7 @@ use word::word::{minus, plus};
 
 // Pushes a long: the reply, and the state with A7 down by 4.
 pub fn push32(cpu: Cpu, mem: &mut [u8], v: u32) -> Stepped
-    ensures { outcome result mem.new ≡ push32Of cpu (lent mem.old) v }
+    ensures { outcome result mem.new ≡ push32_of cpu (lent mem.old) v }
 {
     let first = first_refusal(cpu, &*mem);
     if !is_done(first) {
@@ -49,7 +49,7 @@ fn not_popped(cpu: Cpu, reply: Reply) -> Popped
 
 // Pops a long: the reply, the long, and the state with A7 up by 4.
 pub fn pop32(cpu: Cpu, mem: &[u8]) -> Popped
-    ensures { result ≡ pop32Of cpu (lent mem.now) }
+    ensures { result ≡ pop32_of cpu (lent mem.now) }
 {
     let first = first_refusal(cpu, mem);
     if !is_done(first) {

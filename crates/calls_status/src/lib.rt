@@ -2,7 +2,7 @@
 #![tactic(auto)]
 
 ghost use Rattle.std.specs.Prelude.{◌≡◌};
-ghost use Rattle.manual.specs.Exceptions.{set_sr_call, told as toldOf, ipl as iplOf, supervisor_call};
+ghost use Rattle.manual.specs.Exceptions.{set_sr_call, told as told_of, ipl as ipl_of, supervisor_call};
 
 use manual::{Answer, Cpu, Reply, Told};
 use state::status::{admitted, with_status};
@@ -25,7 +25,7 @@ pub fn set_sr(cpu: Cpu, v: u16) -> Answer
 }
 
 fn told(cpu: Cpu, v: u64) -> Told
-    ensures { result ≡ toldOf cpu v }
+    ensures { result ≡ told_of cpu v }
 {
     if admitted(cpu) {
         return Told {
@@ -41,7 +41,7 @@ fn told(cpu: Cpu, v: u64) -> Told
 
 // The interrupt mask; refused with 2.
 pub fn ipl(cpu: Cpu) -> Told
-    ensures { result ≡ iplOf cpu }
+    ensures { result ≡ ipl_of cpu }
 {
     told(cpu, (cpu.sr / 0x100 % 8) as u64)
 }

@@ -269,7 +269,7 @@ module _ (g : List ℕ) (at sr : ℕ) (m : Memory) (op : ℕ) where
 
   -- the registers go to memory, or come from it
   abbrev many : Bool → ℕ → ℕ → Effect
-  many toMemory = cond toMemory stores_many loads_many
+  many to_memory = cond to_memory stores_many loads_many
 
   many-does : (b : Bool) (next regs a : ℕ) → Does at sr (many b regs a) (acting sr next no_write (l4.many b regs a))
   unfolding l4.many

@@ -205,5 +205,5 @@ examples =
     ∷ [])
 
 pub checked_by_hand : map (λ x. x.given) examples ≡ map (λ x. x.said) examples
-unfolding examples step execute bits.with_bit instruction perform row_of place_in admitted.admitted admitted.status admitted.emac_admitted memory.load memory.value_at memory.store_at memory.storing memory.stored word.cut word.merged word.plus word.minus word.size_of word.signed_at word.sign_extended registers.data_of registers.address_of registers.general registers.no_write registers.write_data registers.write_address registers.write_general registers.written registers.with_parts registers.with_address registers.with_pc registers.with_sr registers.with_registers registers.with_vbr registers.with_cacr registers.with_stopped registers.with_emac registers.coded registers.applied address.operand address.extension address.source address.value address.fetch address.locate address.immediate address.moved address.control address.destination_of change.done change.acting change.enter_after change.enter change.illegal change.store change.put change.put_to flags.codes flags.kept_codes flags.move_codes flags.added flags.subtracted flags.sum_or_difference flags.sum_codes l9.sums l9.add_to_data le.line_e le.shift le.shifted le.shift_count shift.shifted_left shift.signed_shifted_right shift.shift_codes l4.line4 l4.div_l l4.divided l4.extb l4.lea l4.halt l4.tas l4.movec control.control_register control.movec_read control.movec_write control.control_moved l8.line8 l8.div_w l8.word_divided lc.logic_to_data bits.logic divide.quotient divide.signed_quotient divide.word_quotient divide.signed_word_quotient divide.overflowCodes l0.line0 l0.ff1 count_leading_zeros la.line_a la.mac la.mac_registers la.operand la.move_to_emac la.setting la.move_acc_to_acc emac.mode_of emac.word_operand emac.acc_of emac.with_acc emac.with_sum emac.accumulate emac.set_acc emac.copy_acc exceptions.set_sr exceptions.handler_sr exceptions.frame_long exceptions.handler_state exceptions.entered exceptions.return_state exceptions.returned exceptions.exception exceptions.rte fresh lents.lent_refusal lents.state_refusal lents.first_refusal memory.access
+unfolding examples step execute bits.with_bit instruction perform row_of place_in admitted.admitted admitted.status admitted.emac_admitted memory.load memory.value_at memory.store_at memory.storing memory.stored word.cut word.merged word.plus word.minus word.size_of word.signed_at word.sign_extended registers.data_of registers.address_of registers.general registers.no_write registers.write_data registers.write_address registers.write_general registers.written registers.with_parts registers.with_address registers.with_pc registers.with_sr registers.with_registers registers.with_vbr registers.with_cacr registers.with_stopped registers.with_emac registers.coded registers.applied address.operand address.extension address.source address.value address.fetch address.locate address.immediate address.moved address.control address.destination_of change.done change.acting change.enter_after change.enter change.illegal change.store change.put change.put_to flags.codes flags.kept_codes flags.move_codes flags.added flags.subtracted flags.sum_or_difference flags.sum_codes l9.sums l9.add_to_data le.line_e le.shift le.shifted le.shift_count shift.shifted_left shift.signed_shifted_right shift.shift_codes l4.line4 l4.div_l l4.divided l4.extb l4.lea l4.halt l4.tas l4.movec control.control_register control.movec_read control.movec_write control.control_moved l8.line8 l8.div_w l8.word_divided lc.logic_to_data bits.logic divide.quotient divide.signed_quotient divide.word_quotient divide.signed_word_quotient divide.overflow_codes l0.line0 l0.ff1 count_leading_zeros la.line_a la.mac la.mac_registers la.operand la.move_to_emac la.setting la.move_acc_to_acc emac.mode_of emac.word_operand emac.acc_of emac.with_acc emac.with_sum emac.accumulate emac.set_acc emac.copy_acc exceptions.set_sr exceptions.handler_sr exceptions.frame_long exceptions.handler_state exceptions.entered exceptions.return_state exceptions.returned exceptions.exception exceptions.rte fresh lents.lent_refusal lents.state_refusal lents.first_refusal memory.access
 checked_by_hand = refl

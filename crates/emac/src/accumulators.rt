@@ -1,7 +1,7 @@
 // The accumulators by number, their physical registers ACCn and ACCextn, and the moves to them.
 ghost use Rattle.std.specs.Prelude.{◌≡◌, ◌+◌, ◌*◌, ◌/◌, ◌%◌, ◌^◌, ◌<◌};
 ghost use Rattle.manual.specs.Word.{mod_z};
-ghost use Rattle.manual.specs.Emac.{acc_of, with_acc, acc_part, ext_part, pattern_of, reinterpreted as reinterpretedOf, set_macsr, loaded_as, set_acc, copy_acc, clear_acc, read_ext, with_ext, set_ext, set_mask};
+ghost use Rattle.manual.specs.Emac.{acc_of, with_acc, acc_part, ext_part, pattern_of, reinterpreted as reinterpreted_of, set_macsr, loaded_as, set_acc, copy_acc, clear_acc, read_ext, with_ext, set_ext, set_mask};
 
 use super::flags::{fractional, mode_of, pav, with_flags, with_pav};
 use manual::{Emac, Mode};
@@ -61,7 +61,7 @@ pub fn pattern_of(fi: bool, acc: u32, ext: u32) -> u64
 }
 
 fn reinterpreted(old: bool, new: bool, a: u64) -> u64
-    ensures { result ≡ reinterpretedOf old new a }
+    ensures { result ≡ reinterpreted_of old new a }
 {
     pattern_of(new, acc_part(old, a), ext_part(old, a))
 }

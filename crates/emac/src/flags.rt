@@ -1,13 +1,13 @@
 // MACSR: the mode, PAVn, and the flags that an accumulator sets.
 ghost use Rattle.std.specs.Prelude.{◌≡◌, ◌+◌, ◌*◌, ◌^◌, ◌<◌, ◌≤◌, ◌==◌, nat_le};
 ghost use Rattle.manual.specs.Word.{bit};
-ghost use Rattle.manual.specs.Emac.{fractional as fractionalOf, mode_of, pav as pavOf, with_pav, extension_in_use, with_flags as withFlagsOf};
+ghost use Rattle.manual.specs.Emac.{fractional as fractional_of, mode_of, pav as pav_of, with_pav, extension_in_use, with_flags as with_flags_of};
 
 use manual::Mode;
 
 // Whether FI of MACSR is set.
 pub fn fractional(macsr: u32) -> bool
-    ensures { result ≡ fractionalOf macsr }
+    ensures { result ≡ fractional_of macsr }
 {
     macsr / 0x20 % 2 == 1
 }
@@ -26,7 +26,7 @@ pub fn mode_of(macsr: u32) -> Mode
 
 // PAVn of MACSR.
 pub fn pav(macsr: u32, i: u32) -> bool
-    ensures { result ≡ pavOf macsr i }
+    ensures { result ≡ pav_of macsr i }
 {
     (macsr >> (8 + i % 4)) % 2 == 1
 }
@@ -74,7 +74,7 @@ fn low_flags(k: Mode, over: bool, a: u64) -> u32
 
 // MACSR after accumulator i was given a pattern.
 pub fn with_flags(k: Mode, macsr: u32, i: u32, over: bool, a: u64) -> u32
-    ensures { result ≡ withFlagsOf k macsr i over a }
+    ensures { result ≡ with_flags_of k macsr i over a }
 {
     with_pav(macsr / 16 * 16, i, over) + low_flags(k, over, a)
 }

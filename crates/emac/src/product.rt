@@ -5,7 +5,7 @@ ghost use Rattle.manual.specs.declared.Size.TheVariants.{Long};
 ghost use Rattle.manual.specs.Word.{signed, in_half};
 ghost use Rattle.manual.specs.Emac.{rounds_up, product_over, scale_of};
 ghost use Rattle.word.specs.RaisedLaws.{Up};
-ghost use Rattle.emac.specs.Products.{fraction as fractionOf, signed_product, unsigned_product, far_product, IsFraction, raised_product, IsNumber, IsScaled};
+ghost use Rattle.emac.specs.Products.{fraction as fraction_of, signed_product, unsigned_product, far_product, IsFraction, raised_product, IsNumber, IsScaled};
 
 use manual::Mode;
 use word::word::plus;
@@ -60,7 +60,7 @@ fn fraction(rt: bool, p: u64) -> u64
 }
 
 fn fractional_product(rt: bool, x: u32, y: u32) -> Raised
-    ensures { IsNumber (fractionOf rt (signed Long x *ℤ signed Long y)) false result }
+    ensures { IsNumber (fraction_of rt (signed Long x *ℤ signed Long y)) false result }
 {
     let f = fraction(rt, product(x, y));
     Raised {

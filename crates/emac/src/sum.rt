@@ -1,7 +1,7 @@
 // MAC and MSAC: a product is added to an accumulator's number or taken from it. Numbers are raised by 2^52.
 ghost use Rattle.std.specs.Prelude.{◌≡◌, ◌+◌, ◌-◌, ◌^◌, ◌<◌, ◌≤◌};
 ghost use Rattle.manual.specs.Word.{mod_z};
-ghost use Rattle.manual.specs.Emac.{value_of, limit as limitOf, emac_of, accumulate as accumulateOf};
+ghost use Rattle.manual.specs.Emac.{value_of, limit as limit_of, emac_of, accumulate as accumulate_of};
 ghost use Rattle.emac.specs.Products.{raised};
 ghost use Rattle.emac.specs.Sums.{IsSum, IsOutside, IsStored, IsWithSum, IsSummed};
 
@@ -45,7 +45,7 @@ fn outside(k: Mode, s: u64) -> bool
 
 // The pattern of the largest and smallest number of ACCn.
 fn limit(k: Mode, below: bool) -> u64
-    ensures { result ≡ mod_z (limitOf k below) (2 ^ 48) }
+    ensures { result ≡ mod_z (limit_of k below) (2 ^ 48) }
 {
     if k.fi {
         if below {
@@ -146,7 +146,7 @@ pub fn accumulate_in(
     x: u32,
     y: u32,
 ) -> u32
-    ensures { emac_of result mask acc.new ≡ accumulateOf (emac_of macsr mask acc.old) i scale sub x y }
+    ensures { emac_of result mask acc.new ≡ accumulate_of (emac_of macsr mask acc.old) i scale sub x y }
 {
     let j = (i % 4) as usize;
     let s = summed(macsr, acc[j], i, scale, sub, x, y);
@@ -165,7 +165,7 @@ pub fn accumulate_plainly(
     x: u32,
     y: u32,
 ) -> u32
-    ensures { emac_of result mask acc.new ≡ accumulateOf (emac_of macsr mask acc.old) i scale sub x y }
+    ensures { emac_of result mask acc.new ≡ accumulate_of (emac_of macsr mask acc.old) i scale sub x y }
 {
     let j = (i % 4) as usize;
     let s = summed_plainly(macsr, acc[j], i, scale, sub, x, y);
@@ -175,7 +175,7 @@ pub fn accumulate_plainly(
 
 // The same of a whole unit.
 pub fn accumulate(e: Emac, i: u32, scale: u32, sub: bool, x: u32, y: u32) -> Emac
-    ensures { result ≡ accumulateOf e i scale sub x y }
+    ensures { result ≡ accumulate_of e i scale sub x y }
 {
     let mut acc = e.acc;
     let macsr = accumulate_in(e.macsr, e.mask, &mut acc, i, scale, sub, x, y);

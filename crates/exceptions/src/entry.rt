@@ -1,9 +1,9 @@
 // Entry of an exception, and return from it.
 ghost use Rattle.std.specs.Prelude.{◌≡◌, ◌+◌, ◌*◌, ◌/◌, ◌%◌, ◌^◌};
 ghost use Rattle.manual.specs.Memory.{mapped};
-ghost use Rattle.manual.specs.Reply.{outcome, refusal as refusalOf, fault_reply};
+ghost use Rattle.manual.specs.Reply.{outcome, refusal as refusal_of, fault_reply};
 ghost use Rattle.manual.specs.Differences.{frame_bytes};
-ghost use Rattle.manual.specs.Exceptions.{frame_long, framed, handler_state, entered as entered_of, return_state as returnStateOf, returned as returnedOf};
+ghost use Rattle.manual.specs.Exceptions.{frame_long, framed, handler_state, entered as entered_of, return_state as return_state_of, returned as returned_of};
 
 use manual::{Access, Cpu, Fault, Got, Level, Reply, Size, Stepped};
 use memory::{access, load, long_at, put_long};
@@ -14,7 +14,7 @@ use word::word::{minus, plus};
 
 // Refused: the registers as given, and no vector.
 pub fn refusal(given: Cpu, reply: Reply) -> Stepped
-    ensures { result ≡ refusalOf given reply }
+    ensures { result ≡ refusal_of given reply }
 {
     Stepped {
         reply: reply,
@@ -25,7 +25,7 @@ pub fn refusal(given: Cpu, reply: Reply) -> Stepped
 
 // Refused for an access that memory does not take.
 pub fn faulted(given: Cpu, x: Fault) -> Stepped
-    ensures { result ≡ refusalOf given (fault_reply x) }
+    ensures { result ≡ refusal_of given (fault_reply x) }
 {
     refusal(given, fault_reply(x))
 }
@@ -94,7 +94,7 @@ fn frame_bytes(format: u32) -> u32
 }
 
 fn return_state(cpu: Cpu, sp: u32, w: u32, pc: u32) -> Cpu
-    ensures { result ≡ returnStateOf cpu sp w pc }
+    ensures { result ≡ return_state_of cpu sp w pc }
 {
     let up = frame_bytes(w / 0x1000_0000);
     with_pc(with_status(with_address(cpu, 7, plus(sp, up)), w), pc)
@@ -102,7 +102,7 @@ fn return_state(cpu: Cpu, sp: u32, w: u32, pc: u32) -> Cpu
 
 // Return from an exception, or its refusal.
 pub fn returned(given: Cpu, cpu: Cpu, mem: &[u8]) -> Stepped
-    ensures { outcome result mem.now ≡ returnedOf given cpu (mapped mem.now) }
+    ensures { outcome result mem.now ≡ returned_of given cpu (mapped mem.now) }
 {
     let g = cpu.r;
     let sp = address(&g, 7);

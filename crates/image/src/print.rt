@@ -1,14 +1,14 @@
 // What a run of an image prints.
 ghost use Rattle.std.specs.Prelude.{◌≡◌, [], ◌∷◌, ◌++◌, ◌+◌, ◌≤◌, ◌<◌};
-ghost use Rattle.manual.specs.Image.{digit as digitOf, hex, decimal as decimalOf, longs as longsOf, newline, answer_line, steps_line, sr_line, data_line, address_line, run_text, printed, text_of};
-ghost use Rattle.image.specs.Texts.{none as noneOf, put as put_of, appended};
+ghost use Rattle.manual.specs.Image.{digit as digit_of, hex, decimal as decimal_of, longs as longs_of, newline, answer_line, steps_line, sr_line, data_line, address_line, run_text, printed, text_of};
+ghost use Rattle.image.specs.Texts.{none as none_of, put as put_of, appended};
 
 use super::Text;
 use manual::{Cpu, Reply};
 use state::replies::number_of;
 
 fn none() -> Text
-    ensures { result ≡ noneOf }
+    ensures { result ≡ none_of }
 {
     Text {
         bytes: [0; 256],
@@ -44,7 +44,7 @@ fn letters(t: Text, word: &[u8]) -> Text
 
 fn digit(d: u32) -> u8
     requires { d < 16 }
-    ensures { result ≡ digitOf d }
+    ensures { result ≡ digit_of d }
 {
     if d < 10 {
         return 48 + d as u8;
@@ -71,7 +71,7 @@ fn hex_long(t: Text, v: u32) -> Text
 }
 
 fn decimal(t: Text, v: u32) -> Text
-    ensures { result ≡ appended t (decimalOf 10 v) }
+    ensures { result ≡ appended t (decimal_of 10 v) }
 {
     if v < 10 {
         return put(t, digit(v));
@@ -81,7 +81,7 @@ fn decimal(t: Text, v: u32) -> Text
 
 fn longs(t: Text, g: &[u32; 16], from: usize) -> Text
     requires { from ≤ 8 }
-    ensures { result ≡ appended t (longsOf g.now from 8) }
+    ensures { result ≡ appended t (longs_of g.now from 8) }
 {
     let mut u = t;
     let mut i: usize = 0;

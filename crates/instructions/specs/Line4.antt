@@ -5,7 +5,7 @@ use lib.{Dec.eqb, Dec.ltb}
 use Rattle.manual.specs.declared.{Size.Size, Size.TheVariants.Byte, Size.TheVariants.Word, Size.TheVariants.Long, Source.Source, Write.Write, Change.Change, Sum.Sum, Quotient.Quotient, Action.Action, Action.TheVariants.Return}
 use Rattle.manual.specs.declared.{Action.TheVariants.Status, Action.TheVariants.Stop, Action.TheVariants.PushStatus, Action.TheVariants.Halt, Action.TheVariants.SetOther, Action.TheVariants.StoreMany, Action.TheVariants.LoadMany}
 use Rattle.manual.specs.declared.{Action.TheVariants.MoveControl, ControlRegister.ControlRegister, Named.Named, Named.TheVariants.Control, Named.TheVariants.Unknown}
-use Rattle.manual.specs.{Word.plus, Word.minus, Word.cut, Word.merged, Word.sign_extended, Bits.bit_of, Bits.with_bit, Multiply.long_product, Multiply.signed_long_product, Divide.quotient, Divide.signed_quotient, Divide.overflowCodes}
+use Rattle.manual.specs.{Word.plus, Word.minus, Word.cut, Word.merged, Word.sign_extended, Bits.bit_of, Bits.with_bit, Multiply.long_product, Multiply.signed_long_product, Divide.quotient, Divide.signed_quotient, Divide.overflow_codes}
 use Rattle.manual.specs.{Registers.data_of, Registers.address_of, Registers.no_write, Registers.write_data, Registers.write_address, Flags.flag_x, Flags.flag_v, Flags.move_codes, Flags.kept_codes, Flags.sum_codes, Flags.extended_codes}
 use Rattle.manual.specs.{Flags.subtracted, Exceptions.supervisor, Memory.Memory, Memory.load, Address.extension, Address.moved, Address.control, Address.destination, Address.operand_of, Change.reading_source, Change.done, Change.store}
 use Rattle.manual.specs.{Change.acting, Change.enter, Change.enter_after, Change.illegal, Change.privilege, Change.jump, Change.push, Change.reading, Change.reaching, Change.put_to, Change.updating, Change.result}
@@ -166,19 +166,19 @@ movec writes at sr m =
 
 -- the registers go to memory, or come from it
 unfoldable pub many : Bool → ℕ → ℕ → Action
-many toMemory mask a = cond toMemory (StoreMany mask a) (LoadMany mask a)
+many to_memory mask a = cond to_memory (StoreMany mask a) (LoadMany mask a)
 
 -- 15. Modes that MOVEM has not fetch the mask first. The manual: illegal
 unfoldable pub movem : Bool → List ℕ → ℕ → ℕ → Memory → ℕ → Change
-movem toMemory g at sr m op =
+movem to_memory g at sr m op =
     let pc : ℕ = plus at 2 in
     let a : ℕ = address_of g (register op) in
     reading (load m pc Word) λ mask.
     cond (eqb (mode op) 2)
-    (acting sr (plus pc 2) no_write (many toMemory mask a))
+    (acting sr (plus pc 2) no_write (many to_memory mask a))
     (cond (eqb (mode op) 5)
     (reading (load m (plus pc 2) Word) λ d.
-    acting sr (plus pc 4) no_write (many toMemory mask (plus a (sign_extended Word d))))
+    acting sr (plus pc 4) no_write (many to_memory mask (plus a (sign_extended Word d))))
     (illegal at sr))
 
 -- ---- one data register
@@ -295,7 +295,7 @@ dividing z sr from v q to =
     cond (eqb v 0) (zero_divide sr from)
     (cond q.fits
     (done from.next (move_codes z q.quotient sr) from.moved to)
-    (done from.next (overflowCodes sr) from.moved no_write))
+    (done from.next (overflow_codes sr) from.moved no_write))
 
 abbrev pub div_l_by : List ℕ → ℕ → ℕ → Source → ℕ → Change
 div_l_by g sr w from v =

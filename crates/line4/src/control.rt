@@ -2,9 +2,9 @@
 ghost use Rattle.std.specs.Prelude.{◌≡◌, ◌+◌, ◌*◌, ◌/◌, ◌%◌, ◌<◌};
 ghost use Rattle.manual.specs.Memory.{mapped};
 ghost use Rattle.manual.specs.Registers.{no_write};
-ghost use Rattle.manual.specs.Change.{acting as actingOf};
-ghost use Rattle.line4.specs.ControlAddress.{control_address as controlAddressOf};
-ghost use Rattle.instructions.specs.Line4.{nop as nopOf, lea as leaOf, pea as peaOf, jsr as jsrOf, jmp as jmpOf, rts as rtsOf, trap as trapOf, link as link_of, unlk as unlkOf, many as manyOf, movem as movemOf};
+ghost use Rattle.manual.specs.Change.{acting as acting_of};
+ghost use Rattle.line4.specs.ControlAddress.{control_address as control_address_of};
+ghost use Rattle.instructions.specs.Line4.{nop as nop_of, lea as lea_of, pea as pea_of, jsr as jsr_of, jmp as jmp_of, rts as rts_of, trap as trap_of, link as link_of, unlk as unlk_of, many as many_of, movem as movem_of};
 
 use address::changes::{acting, done, enter, illegal, jump, push, refused, store};
 use address::operands::{control, extension, operand};
@@ -16,7 +16,7 @@ use word::word::{minus, plus, sign_extended};
 
 // NOP and PULSE: nothing but the PC.
 pub fn nop(at: u32, sr: u16) -> Change
-    ensures { result ≡ nopOf at sr }
+    ensures { result ≡ nop_of at sr }
 {
     jump(sr, plus(at, 2))
 }
@@ -29,7 +29,7 @@ pub enum Way {
 }
 
 fn control_address(g: &[u32; 16], at: u32, sr: u16, mem: &[u8], op: u32) -> Way
-    ensures { result ≡ controlAddressOf g.now at sr (mapped mem.now) op }
+    ensures { result ≡ control_address_of g.now at sr (mapped mem.now) op }
 {
     let pc = plus(at, 2);
     let target = operand(op / 8 % 8, op % 8);
@@ -44,7 +44,7 @@ fn control_address(g: &[u32; 16], at: u32, sr: u16, mem: &[u8], op: u32) -> Way
 
 // LEA: the operand's address to An.
 pub fn lea(g: &[u32; 16], at: u32, sr: u16, mem: &[u8], op: u32) -> Change
-    ensures { result ≡ leaOf g.now at sr (mapped mem.now) op }
+    ensures { result ≡ lea_of g.now at sr (mapped mem.now) op }
 {
     let codes = kept_codes(sr);
     let none = no_write();
@@ -56,7 +56,7 @@ pub fn lea(g: &[u32; 16], at: u32, sr: u16, mem: &[u8], op: u32) -> Change
 
 // PEA: the operand's address is pushed.
 pub fn pea(g: &[u32; 16], at: u32, sr: u16, mem: &[u8], op: u32) -> Change
-    ensures { result ≡ peaOf g.now at sr (mapped mem.now) op }
+    ensures { result ≡ pea_of g.now at sr (mapped mem.now) op }
 {
     match control_address(g, at, sr, mem, op) {
         Way::To(a, next) => push(g, sr, next, a),
@@ -66,7 +66,7 @@ pub fn pea(g: &[u32; 16], at: u32, sr: u16, mem: &[u8], op: u32) -> Change
 
 // JSR: the address of the next instruction is pushed, and the program goes on at the operand's.
 pub fn jsr(g: &[u32; 16], at: u32, sr: u16, mem: &[u8], op: u32) -> Change
-    ensures { result ≡ jsrOf g.now at sr (mapped mem.now) op }
+    ensures { result ≡ jsr_of g.now at sr (mapped mem.now) op }
 {
     match control_address(g, at, sr, mem, op) {
         Way::To(a, next) => push(g, sr, a, next),
@@ -76,7 +76,7 @@ pub fn jsr(g: &[u32; 16], at: u32, sr: u16, mem: &[u8], op: u32) -> Change
 
 // JMP: the program goes on at the operand's address.
 pub fn jmp(g: &[u32; 16], at: u32, sr: u16, mem: &[u8], op: u32) -> Change
-    ensures { result ≡ jmpOf g.now at sr (mapped mem.now) op }
+    ensures { result ≡ jmp_of g.now at sr (mapped mem.now) op }
 {
     match control_address(g, at, sr, mem, op) {
         Way::To(a, _) => jump(sr, a),
@@ -86,7 +86,7 @@ pub fn jmp(g: &[u32; 16], at: u32, sr: u16, mem: &[u8], op: u32) -> Change
 
 // RTS: the PC is popped.
 pub fn rts(g: &[u32; 16], sr: u16, mem: &[u8]) -> Change
-    ensures { result ≡ rtsOf g.now sr (mapped mem.now) }
+    ensures { result ≡ rts_of g.now sr (mapped mem.now) }
 {
     let sp = address(g, 7);
     let v = match load(mem, sp, Size::Long) {
@@ -100,7 +100,7 @@ pub fn rts(g: &[u32; 16], sr: u16, mem: &[u8]) -> Change
 
 // TRAP: vector 32 and up, with the next instruction's PC.
 pub fn trap(at: u32, sr: u16, op: u32) -> Change
-    ensures { result ≡ trapOf at sr op }
+    ensures { result ≡ trap_of at sr op }
 {
     let vector = (32 + op % 16) as u8;
     enter(sr, vector, plus(at, 2))
@@ -125,7 +125,7 @@ pub fn link(g: &[u32; 16], at: u32, sr: u16, mem: &[u8], op: u32) -> Change
 
 // UNLK: the stack pointer is An, and An is popped.
 pub fn unlk(g: &[u32; 16], at: u32, sr: u16, mem: &[u8], op: u32) -> Change
-    ensures { result ≡ unlkOf g.now at sr (mapped mem.now) op }
+    ensures { result ≡ unlk_of g.now at sr (mapped mem.now) op }
 {
     let a = address(g, op % 8);
     let v = match load(mem, a, Size::Long) {
@@ -139,7 +139,7 @@ pub fn unlk(g: &[u32; 16], at: u32, sr: u16, mem: &[u8], op: u32) -> Change
 }
 
 fn many(storing: bool, sr: u16, next: u32, mask: u32, a: u32) -> Change
-    ensures { result ≡ actingOf sr next no_write (manyOf storing mask a) }
+    ensures { result ≡ acting_of sr next no_write (many_of storing mask a) }
 {
     let none = no_write();
     if storing {
@@ -151,7 +151,7 @@ fn many(storing: bool, sr: u16, next: u32, mask: u32, a: u32) -> Change
 
 // MOVEM to memory where `storing`, else from it.
 pub fn movem(storing: bool, g: &[u32; 16], at: u32, sr: u16, mem: &[u8], op: u32) -> Change
-    ensures { result ≡ movemOf storing g.now at sr (mapped mem.now) op }
+    ensures { result ≡ movem_of storing g.now at sr (mapped mem.now) op }
 {
     let pc = plus(at, 2);
     let a = address(g, op % 8);

@@ -1,7 +1,7 @@
 // Line 4 by its rows.
 ghost use Rattle.std.specs.Prelude.{◌≡◌, ◌+◌, ◌*◌, ◌/◌, ◌%◌, ◌<◌};
 ghost use Rattle.manual.specs.Memory.{mapped};
-ghost use Rattle.instructions.specs.Line4.{line4 as line4Of};
+ghost use Rattle.instructions.specs.Line4.{line4 as line4_of};
 
 use super::control::{jmp, jsr, lea, link, movem, nop, pea, rts, trap, unlk};
 use super::single::{clr, div_l, ext_l, ext_w, extb, mul_l, neg, negx, not, sats, swap, tas, tst};
@@ -22,7 +22,7 @@ pub fn instruction(
     mem: &[u8],
     op: u32,
 ) -> Change
-    ensures { result ≡ line4Of row g.now at sr other (mapped mem.now) op }
+    ensures { result ≡ line4_of row g.now at sr other (mapped mem.now) op }
 {
     match row {
         rows::NOP => nop(at, sr),

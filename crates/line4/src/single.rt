@@ -2,14 +2,14 @@
 ghost use Rattle.std.specs.Prelude.{◌≡◌, cond, eqb, ◌+◌, ◌*◌, ◌/◌, ◌%◌, ◌<◌};
 ghost use Rattle.manual.specs.Memory.{mapped};
 ghost use Rattle.manual.specs.declared.Size.TheVariants.{Long};
-ghost use Rattle.manual.specs.Word.{plus as plusOf};
+ghost use Rattle.manual.specs.Word.{plus as plus_of};
 ghost use Rattle.manual.specs.Registers.{no_write, write_data};
 ghost use Rattle.manual.specs.Flags.{move_codes};
 ghost use Rattle.manual.specs.Multiply.{long_product, signed_long_product};
-ghost use Rattle.manual.specs.Divide.{overflowCodes};
+ghost use Rattle.manual.specs.Divide.{overflow_codes};
 ghost use Rattle.manual.specs.Change.{done as done_of};
 ghost use Rattle.line4.specs.Words.{word_and_long};
-ghost use Rattle.instructions.specs.Line4.{extb as extbOf, ext_w, ext_l, swap as swapOf, saturated as saturatedOf, sats as satsOf, neg as neg_of, negx as negxOf, not as notOf, clr as clrOf, tst as tstOf, tas as tasOf, mul_l, divided as dividedOf, quotient_to, div_l};
+ghost use Rattle.instructions.specs.Line4.{extb as extb_of, ext_w, ext_l, swap as swap_of, saturated as saturated_of, sats as sats_of, neg as neg_of, negx as negx_of, not as not_of, clr as clr_of, tst as tst_of, tas as tas_of, mul_l, divided as divided_of, quotient_to, div_l};
 
 use address::changes::{done, enter_after, put_to, refused};
 use address::operands::{destination, fetch, source};
@@ -24,7 +24,7 @@ use word::word::{cut, merged, plus, sign_extended, size_of};
 
 // A long into Dn, with the condition codes of a move.
 fn replaced(at: u32, sr: u16, op: u32, v: u32) -> Change
-    ensures { result ≡ done_of (plusOf at 2) (move_codes Long v sr) no_write (write_data (op % 8) v) }
+    ensures { result ≡ done_of (plus_of at 2) (move_codes Long v sr) no_write (write_data (op % 8) v) }
 {
     let next = plus(at, 2);
     let codes = move_codes(Size::Long, v, sr);
@@ -33,7 +33,7 @@ fn replaced(at: u32, sr: u16, op: u32, v: u32) -> Change
 
 // EXTB: a byte to a long.
 pub fn extb(g: &[u32; 16], at: u32, sr: u16, op: u32) -> Change
-    ensures { result ≡ extbOf g.now at sr op }
+    ensures { result ≡ extb_of g.now at sr op }
 {
     replaced(at, sr, op, sign_extended(Size::Byte, data(g, op % 8)))
 }
@@ -64,14 +64,14 @@ pub fn ext_l(g: &[u32; 16], at: u32, sr: u16, op: u32) -> Change
 
 // SWAP: the two words change places.
 pub fn swap(g: &[u32; 16], at: u32, sr: u16, op: u32) -> Change
-    ensures { result ≡ swapOf g.now at sr op }
+    ensures { result ≡ swap_of g.now at sr op }
 {
     let old = data(g, op % 8);
     replaced(at, sr, op, old % 0x1_0000 * 0x1_0000 + old / 0x1_0000)
 }
 
 fn saturated(sr: u16, v: u32) -> u32
-    ensures { result ≡ saturatedOf sr v }
+    ensures { result ≡ saturated_of sr v }
 {
     if sr / 2 % 2 == 1 {
         if v < 0x8000_0000 {
@@ -86,7 +86,7 @@ fn saturated(sr: u16, v: u32) -> u32
 
 // SATS: after an overflow, the largest number of the sign that the value should have had.
 pub fn sats(g: &[u32; 16], at: u32, sr: u16, op: u32) -> Change
-    ensures { result ≡ satsOf g.now at sr op }
+    ensures { result ≡ sats_of g.now at sr op }
 {
     replaced(at, sr, op, saturated(sr, data(g, op % 8)))
 }
@@ -104,7 +104,7 @@ pub fn neg(g: &[u32; 16], at: u32, op: u32) -> Change
 
 // NEGX: 0 less Dn and X.
 pub fn negx(g: &[u32; 16], at: u32, sr: u16, op: u32) -> Change
-    ensures { result ≡ negxOf g.now at sr op }
+    ensures { result ≡ negx_of g.now at sr op }
 {
     let r = subtracted(Size::Long, data(g, op % 8), 0, sr / 16 % 2 == 1);
     let next = plus(at, 2);
@@ -115,14 +115,14 @@ pub fn negx(g: &[u32; 16], at: u32, sr: u16, op: u32) -> Change
 
 // NOT: every bit of Dn inverted.
 pub fn not(g: &[u32; 16], at: u32, sr: u16, op: u32) -> Change
-    ensures { result ≡ notOf g.now at sr op }
+    ensures { result ≡ not_of g.now at sr op }
 {
     replaced(at, sr, op, 0xFFFF_FFFF - data(g, op % 8))
 }
 
 // CLR: 0 to the operand's place.
 pub fn clr(g: &[u32; 16], at: u32, sr: u16, mem: &[u8], op: u32) -> Change
-    ensures { result ≡ clrOf g.now at sr (mapped mem.now) op }
+    ensures { result ≡ clr_of g.now at sr (mapped mem.now) op }
 {
     let z = size_of(op / 64);
     let to = destination(g, mem, plus(at, 2), op, z);
@@ -131,7 +131,7 @@ pub fn clr(g: &[u32; 16], at: u32, sr: u16, mem: &[u8], op: u32) -> Change
 
 // TST: the operand's flags.
 pub fn tst(g: &[u32; 16], at: u32, sr: u16, mem: &[u8], op: u32) -> Change
-    ensures { result ≡ tstOf g.now at sr (mapped mem.now) op }
+    ensures { result ≡ tst_of g.now at sr (mapped mem.now) op }
 {
     let z = size_of(op / 64);
     let from = source(g, mem, plus(at, 2), op, z);
@@ -148,7 +148,7 @@ pub fn tst(g: &[u32; 16], at: u32, sr: u16, mem: &[u8], op: u32) -> Change
 
 // TAS: the flags of a byte, whose highest bit is then set.
 pub fn tas(g: &[u32; 16], at: u32, sr: u16, mem: &[u8], op: u32) -> Change
-    ensures { result ≡ tasOf g.now at sr (mapped mem.now) op }
+    ensures { result ≡ tas_of g.now at sr (mapped mem.now) op }
 {
     let to = destination(g, mem, plus(at, 2), op, Size::Byte);
     let place = to.place;
@@ -210,7 +210,7 @@ pub fn mul_l(g: &[u32; 16], at: u32, sr: u16, mem: &[u8], op: u32) -> Change
 }
 
 fn divided(w: u32, d: u32, v: u32) -> Quotient
-    ensures { result ≡ dividedOf w d v }
+    ensures { result ≡ divided_of w d v }
 {
     if w / 0x800 % 2 == 1 {
         signed_quotient(d, v)
@@ -231,7 +231,7 @@ fn quotient_to(w: u32, q: Quotient) -> Write
 }
 
 fn quotient_done(next: u32, sr: u16, first: Write, w: u32, q: Quotient) -> Change
-    ensures { result ≡ cond q.fits (done_of next (move_codes Long q.quotient sr) first (quotient_to w q)) (done_of next (overflowCodes sr) first no_write) }
+    ensures { result ≡ cond q.fits (done_of next (move_codes Long q.quotient sr) first (quotient_to w q)) (done_of next (overflow_codes sr) first no_write) }
 {
     if q.fits {
         let codes = move_codes(Size::Long, q.quotient, sr);

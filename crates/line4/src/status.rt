@@ -2,8 +2,8 @@
 ghost use Rattle.std.specs.Prelude.{◌≡◌, cond, ◌+◌, ◌*◌, ◌/◌, ◌%◌, ◌<◌};
 ghost use Rattle.manual.specs.Memory.{mapped};
 ghost use Rattle.manual.specs.Exceptions.{supervisor};
-ghost use Rattle.manual.specs.Change.{privilege as privilegeOf};
-ghost use Rattle.instructions.specs.Line4.{rte as rteOf, stop as stopOf, stldsr as stldsrOf, halt as haltOf, move_to_usp, move_from_usp, move_from_sr, move_to_sr, move_from_ccr, move_to_ccr, movec as movecOf};
+ghost use Rattle.manual.specs.Change.{privilege as privilege_of};
+ghost use Rattle.instructions.specs.Line4.{rte as rte_of, stop as stop_of, stldsr as stldsr_of, halt as halt_of, move_to_usp, move_from_usp, move_from_sr, move_to_sr, move_from_ccr, move_to_ccr, movec as movec_of};
 
 use address::changes::{acting, done, enter_after, illegal, privilege, refused};
 use address::operands::source;
@@ -16,7 +16,7 @@ use word::word::{merged, plus};
 
 // What the supervisor alone may do. For anyone else it is a privilege violation.
 fn privileged(at: u32, sr: u16, does: Change) -> Change
-    ensures { result ≡ cond (supervisor sr) does (privilegeOf at sr) }
+    ensures { result ≡ cond (supervisor sr) does (privilege_of at sr) }
 {
     if sr / 0x2000 % 2 == 1 {
         does
@@ -27,7 +27,7 @@ fn privileged(at: u32, sr: u16, does: Change) -> Change
 
 // RTE: the return, or vector 8 for a user.
 pub fn rte(at: u32, sr: u16) -> Change
-    ensures { result ≡ rteOf at sr }
+    ensures { result ≡ rte_of at sr }
 {
     let next = plus(at, 2);
     privileged(at, sr, acting(sr, next, no_write(), Action::Return))
@@ -35,7 +35,7 @@ pub fn rte(at: u32, sr: u16) -> Change
 
 // STOP: a new status register, and stopped; or vector 8 for a user.
 pub fn stop(at: u32, sr: u16, mem: &[u8]) -> Change
-    ensures { result ≡ stopOf at sr (mapped mem.now) }
+    ensures { result ≡ stop_of at sr (mapped mem.now) }
 {
     let pc = plus(at, 2);
     let v = match load(mem, pc, Size::Word) {
@@ -48,7 +48,7 @@ pub fn stop(at: u32, sr: u16, mem: &[u8]) -> Change
 
 // STLDSR: the status register pushed, and a new one; or vector 8 for a user.
 pub fn stldsr(at: u32, sr: u16, mem: &[u8]) -> Change
-    ensures { result ≡ stldsrOf at sr (mapped mem.now) }
+    ensures { result ≡ stldsr_of at sr (mapped mem.now) }
 {
     let pc = plus(at, 2);
     let w = match load(mem, pc, Size::Word) {
@@ -68,7 +68,7 @@ pub fn stldsr(at: u32, sr: u16, mem: &[u8]) -> Change
 
 // HALT: stopped.
 pub fn halt(at: u32, sr: u16) -> Change
-    ensures { result ≡ haltOf at sr }
+    ensures { result ≡ halt_of at sr }
 {
     acting(sr, plus(at, 2), no_write(), Action::Halt)
 }
@@ -158,7 +158,7 @@ pub fn move_to_ccr(g: &[u32; 16], at: u32, mem: &[u8], op: u32) -> Change
 
 // MOVEC to a control register or from it, or vector 8 for a user; vector 4 where the number names none.
 pub fn movec(writes: bool, at: u32, sr: u16, mem: &[u8]) -> Change
-    ensures { result ≡ movecOf writes at sr (mapped mem.now) }
+    ensures { result ≡ movec_of writes at sr (mapped mem.now) }
 {
     let pc = plus(at, 2);
     let w = match load(mem, pc, Size::Word) {

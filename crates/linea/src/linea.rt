@@ -1,8 +1,8 @@
 // Line A by its rows.
 ghost use Rattle.std.specs.Prelude.{◌≡◌, ◌+◌, ◌*◌, ◌/◌, ◌%◌, ◌<◌};
-ghost use Rattle.instructions.specs.LineA.{move_to_general, move_from_acc, line_a as lineAOf};
+ghost use Rattle.instructions.specs.LineA.{move_to_general, move_from_acc, line_a as line_a_of};
 ghost use Rattle.manual.specs.Memory.{mapped};
-ghost use Rattle.manual.specs.Emac.{emac_of, fractional as fractionalOf, read_ext};
+ghost use Rattle.manual.specs.Emac.{emac_of, fractional as fractional_of, read_ext};
 ghost use Rattle.manual.specs.Fields.{ext_field};
 
 use super::mac::mac;
@@ -45,7 +45,7 @@ fn move_from_acc(at: u32, sr: u16, e: Emac, op: u32) -> Change
 }
 
 fn from_ext(at: u32, sr: u16, e: Emac, op: u32) -> Change
-    ensures { result ≡ move_to_general at sr op (read_ext (fractionalOf e.macsr) e (ext_field op)) }
+    ensures { result ≡ move_to_general at sr op (read_ext (fractional_of e.macsr) e (ext_field op)) }
 {
     let fi = fractional(e.macsr);
     move_to_general(at, sr, op, read_ext(fi, e, op / 0x400 % 2 * 2))
@@ -63,7 +63,7 @@ pub fn instruction(
     mem: &[u8],
     op: u32,
 ) -> Change
-    ensures { result ≡ lineAOf row g.now at sr (emac_of macsr mask acc.now) (mapped mem.now) op }
+    ensures { result ≡ line_a_of row g.now at sr (emac_of macsr mask acc.now) (mapped mem.now) op }
 {
     match row {
         rows::MACSR_CCR => move_macsr_to_ccr(at, macsr),

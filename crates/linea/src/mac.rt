@@ -1,7 +1,7 @@
 // Line A: MAC and MSAC, with and without a load.
 ghost use Rattle.std.specs.Prelude.{◌≡◌, ◌+◌, ◌*◌, ◌/◌, ◌%◌, ◌<◌};
 ghost use Rattle.manual.specs.Memory.{mapped};
-ghost use Rattle.instructions.specs.LineA.{operand as operand_of, accumulating as accumulatingOf, mac_registers, load_moves, load_address, mac_load, mac_with_load, mac as macOf};
+ghost use Rattle.instructions.specs.LineA.{operand as operand_of, accumulating as accumulating_of, mac_registers, load_moves, load_address, mac_load, mac_with_load, mac as mac_of};
 
 use address::changes::{acting, enter, refused};
 use emac::flags::mode_of;
@@ -25,7 +25,7 @@ pub fn operand(macsr: u32, w: u32, upper: bool, v: u32) -> u32
 
 // The sum that the second word says: the scale, the sign, and which halves where it says words.
 fn accumulating(macsr: u32, w: u32, i: u32, rx: u32, ry: u32) -> Action
-    ensures { result ≡ accumulatingOf macsr w i rx ry }
+    ensures { result ≡ accumulating_of macsr w i rx ry }
 {
     let x = operand(macsr, w, w / 128 % 2 == 1, rx);
     let y = operand(macsr, w, w / 64 % 2 == 1, ry);
@@ -136,7 +136,7 @@ pub(crate) fn mac(
     mem: &[u8],
     op: u32,
 ) -> Change
-    ensures { result ≡ macOf g.now at sr macsr mask (mapped mem.now) op }
+    ensures { result ≡ mac_of g.now at sr macsr mask (mapped mem.now) op }
 {
     let w = match load(mem, plus(at, 2), Size::Word) {
         Got::Value(w) => w,

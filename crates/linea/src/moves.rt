@@ -1,7 +1,7 @@
 // Line A: moves to and from the EMAC, and MOV3Q.
 ghost use Rattle.std.specs.Prelude.{◌≡◌, ◌+◌, ◌*◌, ◌/◌, ◌%◌, ◌<◌};
 ghost use Rattle.manual.specs.Memory.{mapped};
-ghost use Rattle.instructions.specs.LineA.{move_macsr_to_ccr, move_to_general, move_acc_to_acc as moveAccToAccOf, setting as setting_of, move_to_emac, three_bits, mov3q as mov3qOf, unassigned as unassignedOf};
+ghost use Rattle.instructions.specs.LineA.{move_macsr_to_ccr, move_to_general, move_acc_to_acc as move_acc_to_acc_of, setting as setting_of, move_to_emac, three_bits, mov3q as mov3q_of, unassigned as unassigned_of};
 
 use address::changes::{acting, done, enter_after, put_to, refused};
 use address::operands::{destination, source};
@@ -31,7 +31,7 @@ pub(crate) fn move_to_general(at: u32, sr: u16, op: u32, v: u32) -> Change
 }
 
 pub(crate) fn move_acc_to_acc(at: u32, sr: u16, op: u32) -> Change
-    ensures { result ≡ moveAccToAccOf at sr op }
+    ensures { result ≡ move_acc_to_acc_of at sr op }
 {
     acting(
         sr,
@@ -81,7 +81,7 @@ fn three_bits(op: u32) -> u32
 }
 
 pub(crate) fn mov3q(g: &[u32; 16], at: u32, sr: u16, mem: &[u8], op: u32) -> Change
-    ensures { result ≡ mov3qOf g.now at sr (mapped mem.now) op }
+    ensures { result ≡ mov3q_of g.now at sr (mapped mem.now) op }
 {
     let v = three_bits(op);
     let to = destination(g, mem, plus(at, 2), op, Size::Long);
@@ -89,7 +89,7 @@ pub(crate) fn mov3q(g: &[u32; 16], at: u32, sr: u16, mem: &[u8], op: u32) -> Cha
 }
 
 pub(crate) fn unassigned(g: &[u32; 16], at: u32, sr: u16, mem: &[u8], op: u32) -> Change
-    ensures { result ≡ unassignedOf g.now at sr (mapped mem.now) op }
+    ensures { result ≡ unassigned_of g.now at sr (mapped mem.now) op }
 {
     let from = source(g, mem, plus(at, 2), op, Size::Long);
     let got = from.got;

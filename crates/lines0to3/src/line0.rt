@@ -1,7 +1,7 @@
 // Line 0: bit operations and immediates.
 ghost use Rattle.std.specs.Prelude.{◌≡◌, ◌+◌, ◌*◌, ◌/◌, ◌%◌, ◌<◌};
 ghost use Rattle.manual.specs.Memory.{mapped};
-ghost use Rattle.instructions.specs.Line0.{bitrev as bitrevOf, byterev as byterevOf, ff1 as ff1Of, logic_immediate, sum_immediate, cmpi as cmpiOf, bit_of_data, bit_of_byte, bit_operation, bit_by_register, bit_by_immediate, line0 as line0Of};
+ghost use Rattle.instructions.specs.Line0.{bitrev as bitrev_of, byterev as byterev_of, ff1 as ff1_of, logic_immediate, sum_immediate, cmpi as cmpi_of, bit_of_data, bit_of_byte, bit_operation, bit_by_register, bit_by_immediate, line0 as line0_of};
 
 use super::bits::changed_bit;
 use address::changes::{done, illegal, put_to, refused};
@@ -16,7 +16,7 @@ use word::registers::{data, no_write, write_data};
 use word::word::plus;
 
 fn bitrev(g: &[u32; 16], at: u32, sr: u16, op: u32) -> Change
-    ensures { result ≡ bitrevOf g.now at sr op }
+    ensures { result ≡ bitrev_of g.now at sr op }
 {
     let next = plus(at, 2);
     let codes = kept_codes(sr);
@@ -30,7 +30,7 @@ fn bitrev(g: &[u32; 16], at: u32, sr: u16, op: u32) -> Change
 }
 
 fn byterev(g: &[u32; 16], at: u32, sr: u16, op: u32) -> Change
-    ensures { result ≡ byterevOf g.now at sr op }
+    ensures { result ≡ byterev_of g.now at sr op }
 {
     let next = plus(at, 2);
     let codes = kept_codes(sr);
@@ -44,7 +44,7 @@ fn byterev(g: &[u32; 16], at: u32, sr: u16, op: u32) -> Change
 }
 
 fn ff1(g: &[u32; 16], at: u32, sr: u16, op: u32) -> Change
-    ensures { result ≡ ff1Of g.now at sr op }
+    ensures { result ≡ ff1_of g.now at sr op }
 {
     let v = data(g, op % 8);
     let next = plus(at, 2);
@@ -86,7 +86,7 @@ pub fn sum_immediate(add: bool, g: &[u32; 16], at: u32, mem: &[u8], op: u32) -> 
 }
 
 fn cmpi(z: Size, g: &[u32; 16], at: u32, sr: u16, mem: &[u8], op: u32) -> Change
-    ensures { result ≡ cmpiOf z g.now at sr (mapped mem.now) op }
+    ensures { result ≡ cmpi_of z g.now at sr (mapped mem.now) op }
 {
     let pc = plus(at, 2);
     let v = match value(g, mem, pc, Operand::Immediate, z) {
@@ -163,7 +163,7 @@ fn bit_by_immediate(g: &[u32; 16], at: u32, sr: u16, mem: &[u8], op: u32) -> Cha
 
 // What a word of line 0 changes, taken for the instruction of a row.
 pub fn instruction(row: u8, g: &[u32; 16], at: u32, sr: u16, mem: &[u8], op: u32) -> Change
-    ensures { result ≡ line0Of row g.now at sr (mapped mem.now) op }
+    ensures { result ≡ line0_of row g.now at sr (mapped mem.now) op }
 {
     match row {
         rows::BITREV => bitrev(g, at, sr, op),

@@ -2,7 +2,7 @@
 ghost use Rattle.std.specs.Prelude.{◌≡◌, ◌+◌, ◌*◌, ◌/◌, ◌%◌, ◌<◌};
 ghost use Rattle.manual.specs.Memory.{mapped};
 ghost use Rattle.manual.specs.Registers.{written as written_of};
-ghost use Rattle.instructions.specs.Moves.{move as move_of, movea as moveaOf};
+ghost use Rattle.instructions.specs.Moves.{move as move_of, movea as movea_of};
 ghost use Rattle.lines0to3.specs.MoveLaws.{move_to};
 ghost use Rattle.lines0to3.specs.MoveLines.{move_size, movea_row, move_row, move_line};
 
@@ -72,7 +72,7 @@ fn op_move(z: Size, g: &[u32; 16], at: u32, sr: u16, mem: &[u8], op: u32) -> Cha
 }
 
 fn movea(z: Size, g: &[u32; 16], at: u32, sr: u16, mem: &[u8], op: u32) -> Change
-    ensures { result ≡ moveaOf z g.now at sr (mapped mem.now) op }
+    ensures { result ≡ movea_of z g.now at sr (mapped mem.now) op }
 {
     let from = source(g, mem, plus(at, 2), op, z);
     let got = from.got;

@@ -1,6 +1,6 @@
 // Line 5: ADDQ, SUBQ, Scc and TPF.
 ghost use Rattle.std.specs.Prelude.{◌≡◌, ◌+◌, ◌*◌, ◌/◌, ◌%◌, ◌<◌};
-ghost use Rattle.instructions.specs.Line5.{quick_number, quick_adds, addq_address, addq as addqOf, scc as sccOf, tpf as tpfOf, line5 as line5Of};
+ghost use Rattle.instructions.specs.Line5.{quick_number, quick_adds, addq_address, addq as addq_of, scc as scc_of, tpf as tpf_of, line5 as line5_of};
 ghost use Rattle.manual.specs.Memory.{mapped};
 ghost use Rattle.manual.specs.Differences.{any_size};
 
@@ -33,7 +33,7 @@ pub fn addq_address(g: &[u32; 16], at: u32, sr: u16, op: u32) -> Change
 
 // ADDQ and SUBQ to any other operand.
 fn addq(g: &[u32; 16], at: u32, mem: &[u8], op: u32) -> Change
-    ensures { result ≡ addqOf g.now at (mapped mem.now) op }
+    ensures { result ≡ addq_of g.now at (mapped mem.now) op }
 {
     let z = size_of(op / 64);
     add_to_place(op / 256 % 2 == 0, z, g, at, mem, op, quick_number(op))
@@ -41,7 +41,7 @@ fn addq(g: &[u32; 16], at: u32, mem: &[u8], op: u32) -> Change
 
 // Scc: the low byte of Dn all ones where the condition holds, else 0.
 pub fn scc(g: &[u32; 16], at: u32, sr: u16, op: u32) -> Change
-    ensures { result ≡ sccOf g.now at sr op }
+    ensures { result ≡ scc_of g.now at sr op }
 {
     let next = plus(at, 2);
     let codes = kept_codes(sr);
@@ -66,14 +66,14 @@ pub fn scc(g: &[u32; 16], at: u32, sr: u16, op: u32) -> Change
 
 fn tpf(n: u32, at: u32, sr: u16) -> Change
     requires { n < 8 }
-    ensures { result ≡ tpfOf n at sr }
+    ensures { result ≡ tpf_of n at sr }
 {
     jump(sr, plus(at, 2 + n))
 }
 
 // What a word of line 5 changes, taken for the instruction of a row.
 pub fn instruction(row: u8, g: &[u32; 16], at: u32, sr: u16, mem: &[u8], op: u32) -> Change
-    ensures { result ≡ line5Of row g.now at sr (mapped mem.now) op }
+    ensures { result ≡ line5_of row g.now at sr (mapped mem.now) op }
 {
     match row {
         rows::TPF_W => tpf(2, at, sr),

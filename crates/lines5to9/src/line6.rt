@@ -1,7 +1,7 @@
 // Line 6: BRA, BSR and Bcc.
 ghost use Rattle.std.specs.Prelude.{◌≡◌, ◌+◌, ◌*◌, ◌/◌, ◌%◌};
 ghost use Rattle.manual.specs.Memory.{mapped};
-ghost use Rattle.instructions.specs.Line6.{displacement as displacementOf, displacement_bytes, bra as braOf, bsr as bsrOf, bcc as bccOf, line6 as line6Of};
+ghost use Rattle.instructions.specs.Line6.{displacement as displacement_of, displacement_bytes, bra as bra_of, bsr as bsr_of, bcc as bcc_of, line6 as line6_of};
 
 use address::changes::{illegal, jump, push, refused};
 use manual::{Change, Fault, Got, Size};
@@ -10,7 +10,7 @@ use word::conditions::condition;
 use word::word::{plus, sign_extended};
 
 fn displacement(mem: &[u8], pc: u32, low: u32) -> Got
-    ensures { result ≡ displacementOf (mapped mem.now) pc low }
+    ensures { result ≡ displacement_of (mapped mem.now) pc low }
 {
     if low == 0 {
         match load(mem, pc, Size::Word) {
@@ -38,7 +38,7 @@ fn displacement_bytes(low: u32) -> u32
 
 // BRA: the program goes on at a displacement from the word after.
 pub fn bra(at: u32, sr: u16, mem: &[u8], op: u32) -> Change
-    ensures { result ≡ braOf at sr (mapped mem.now) op }
+    ensures { result ≡ bra_of at sr (mapped mem.now) op }
 {
     let pc = plus(at, 2);
     let d = match displacement(mem, pc, op % 256) {
@@ -50,7 +50,7 @@ pub fn bra(at: u32, sr: u16, mem: &[u8], op: u32) -> Change
 
 // BSR: the address of the next instruction is pushed, and the program goes on like BRA.
 pub fn bsr(g: &[u32; 16], at: u32, sr: u16, mem: &[u8], op: u32) -> Change
-    ensures { result ≡ bsrOf g.now at sr (mapped mem.now) op }
+    ensures { result ≡ bsr_of g.now at sr (mapped mem.now) op }
 {
     let pc = plus(at, 2);
     let d = match displacement(mem, pc, op % 256) {
@@ -62,7 +62,7 @@ pub fn bsr(g: &[u32; 16], at: u32, sr: u16, mem: &[u8], op: u32) -> Change
 }
 
 fn bcc(at: u32, sr: u16, mem: &[u8], op: u32) -> Change
-    ensures { result ≡ bccOf at sr (mapped mem.now) op }
+    ensures { result ≡ bcc_of at sr (mapped mem.now) op }
 {
     let pc = plus(at, 2);
     let d = match displacement(mem, pc, op % 256) {
@@ -78,7 +78,7 @@ fn bcc(at: u32, sr: u16, mem: &[u8], op: u32) -> Change
 
 // What a word of line 6 changes, taken for the instruction of a row.
 pub fn instruction(row: u8, g: &[u32; 16], at: u32, sr: u16, mem: &[u8], op: u32) -> Change
-    ensures { result ≡ line6Of row g.now at sr (mapped mem.now) op }
+    ensures { result ≡ line6_of row g.now at sr (mapped mem.now) op }
 {
     match row {
         rows::BRA => bra(at, sr, mem, op),

@@ -1,7 +1,7 @@
 // Line 7: MOVEQ, MVS and MVZ.
 ghost use Rattle.std.specs.Prelude.{◌≡◌, ◌+◌, ◌*◌, ◌/◌, ◌%◌};
 ghost use Rattle.manual.specs.Memory.{mapped};
-ghost use Rattle.instructions.specs.Line7.{moveq as moveqOf, mvs as mvsOf, mvz as mvzOf, line7 as line7Of};
+ghost use Rattle.instructions.specs.Line7.{moveq as moveq_of, mvs as mvs_of, mvz as mvz_of, line7 as line7_of};
 
 use address::changes::{done, illegal, refused};
 use address::operands::source;
@@ -12,7 +12,7 @@ use word::word::{byte_or_word, plus, sign_extended};
 
 // MOVEQ: a byte, sign-extended, to Dn.
 pub fn moveq(at: u32, sr: u16, op: u32) -> Change
-    ensures { result ≡ moveqOf at sr op }
+    ensures { result ≡ moveq_of at sr op }
 {
     let v = sign_extended(Size::Byte, op);
     let next = plus(at, 2);
@@ -21,7 +21,7 @@ pub fn moveq(at: u32, sr: u16, op: u32) -> Change
 }
 
 fn mvs(g: &[u32; 16], at: u32, sr: u16, mem: &[u8], op: u32) -> Change
-    ensures { result ≡ mvsOf g.now at sr (mapped mem.now) op }
+    ensures { result ≡ mvs_of g.now at sr (mapped mem.now) op }
 {
     let z = byte_or_word(op);
     let from = source(g, mem, plus(at, 2), op, z);
@@ -38,7 +38,7 @@ fn mvs(g: &[u32; 16], at: u32, sr: u16, mem: &[u8], op: u32) -> Change
 }
 
 fn mvz(g: &[u32; 16], at: u32, sr: u16, mem: &[u8], op: u32) -> Change
-    ensures { result ≡ mvzOf g.now at sr (mapped mem.now) op }
+    ensures { result ≡ mvz_of g.now at sr (mapped mem.now) op }
 {
     let from = source(g, mem, plus(at, 2), op, byte_or_word(op));
     let got = from.got;
@@ -54,7 +54,7 @@ fn mvz(g: &[u32; 16], at: u32, sr: u16, mem: &[u8], op: u32) -> Change
 
 // What a word of line 7 changes, taken for the instruction of a row.
 pub fn instruction(row: u8, g: &[u32; 16], at: u32, sr: u16, mem: &[u8], op: u32) -> Change
-    ensures { result ≡ line7Of row g.now at sr (mapped mem.now) op }
+    ensures { result ≡ line7_of row g.now at sr (mapped mem.now) op }
 {
     match row {
         rows::MVS => mvs(g, at, sr, mem, op),

@@ -1,6 +1,6 @@
 // Sums and differences: ADD, ADDA, ADDX, SUB, SUBA, SUBX, and what ADDQ and SUBQ do to a place.
 ghost use Rattle.std.specs.Prelude.{◌≡◌, ◌+◌, ◌*◌, ◌/◌, ◌%◌};
-ghost use Rattle.instructions.specs.Line9D.{add_to_data, add_to_place, add_to_memory, more_or_less, adda as addaOf, addx as addxOf, sums as sumsOf};
+ghost use Rattle.instructions.specs.Line9D.{add_to_data, add_to_place, add_to_memory, more_or_less, adda as adda_of, addx as addx_of, sums as sums_of};
 ghost use Rattle.manual.specs.Memory.{mapped};
 ghost use Rattle.manual.specs.Differences.{any_size};
 ghost use Rattle.instructions.specs.Rows.{place_in};
@@ -75,7 +75,7 @@ pub fn more_or_less(add: bool, old: u32, v: u32) -> u32
 
 // ADDA, or SUBA.
 pub fn adda(add: bool, z: Size, g: &[u32; 16], at: u32, sr: u16, mem: &[u8], op: u32) -> Change
-    ensures { result ≡ addaOf add z g.now at sr (mapped mem.now) op }
+    ensures { result ≡ adda_of add z g.now at sr (mapped mem.now) op }
 {
     let from = source(g, mem, plus(at, 2), op, z);
     let got = from.got;
@@ -93,7 +93,7 @@ pub fn adda(add: bool, z: Size, g: &[u32; 16], at: u32, sr: u16, mem: &[u8], op:
 
 // ADDX, or SUBX.
 pub fn addx(add: bool, g: &[u32; 16], at: u32, sr: u16, op: u32) -> Change
-    ensures { result ≡ addxOf add g.now at sr op }
+    ensures { result ≡ addx_of add g.now at sr op }
 {
     let z = size_of(op / 64);
     let old = data(g, op / 512 % 8);
@@ -131,7 +131,7 @@ pub fn by_row(
     mem: &[u8],
     op: u32,
 ) -> Change
-    ensures { result ≡ sumsOf first add row g.now at sr (mapped mem.now) op }
+    ensures { result ≡ sums_of first add row g.now at sr (mapped mem.now) op }
 {
     match place_in(first, row) {
         0 => addx(add, g, at, sr, op),

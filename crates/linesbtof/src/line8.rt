@@ -1,7 +1,7 @@
 // Line 8: OR, DIVU.W and DIVS.W. It stands here because OR is line C's AND with the other operation.
 ghost use Rattle.std.specs.Prelude.{◌≡◌};
 ghost use Rattle.manual.specs.Memory.{mapped};
-ghost use Rattle.instructions.specs.Line8.{word_divided, div_w, line8 as line8Of};
+ghost use Rattle.instructions.specs.Line8.{word_divided, div_w, line8 as line8_of};
 
 use super::lineb::logic_to_place;
 use super::linec::logic_to_data;
@@ -50,7 +50,7 @@ fn div_w(signs: bool, g: &[u32; 16], at: u32, sr: u16, mem: &[u8], op: u32) -> C
 
 // What a word of line 8 changes, taken for the instruction of a row.
 pub fn instruction(row: u8, g: &[u32; 16], at: u32, sr: u16, mem: &[u8], op: u32) -> Change
-    ensures { result ≡ line8Of row g.now at sr (mapped mem.now) op }
+    ensures { result ≡ line8_of row g.now at sr (mapped mem.now) op }
 {
     match row {
         rows::DIVU_W => div_w(false, g, at, sr, mem, op),

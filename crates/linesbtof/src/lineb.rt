@@ -1,6 +1,6 @@
 // Line B: CMP, CMPA and EOR.
 ghost use Rattle.std.specs.Prelude.{◌≡◌};
-ghost use Rattle.instructions.specs.LineB.{cmp as cmpOf, cmpa as cmpaOf, logic_to_place, line_b as lineBOf};
+ghost use Rattle.instructions.specs.LineB.{cmp as cmp_of, cmpa as cmpa_of, logic_to_place, line_b as line_b_of};
 ghost use Rattle.manual.specs.Memory.{mapped};
 
 use address::changes::{done, illegal, put_to, refused};
@@ -12,7 +12,7 @@ use word::registers::{address_after, data, no_write};
 use word::word::{plus, sign_extended, size_of};
 
 fn cmp(g: &[u32; 16], at: u32, sr: u16, mem: &[u8], op: u32) -> Change
-    ensures { result ≡ cmpOf g.now at sr (mapped mem.now) op }
+    ensures { result ≡ cmp_of g.now at sr (mapped mem.now) op }
 {
     let z = size_of(op / 64);
     let from = source(g, mem, plus(at, 2), op, z);
@@ -29,7 +29,7 @@ fn cmp(g: &[u32; 16], at: u32, sr: u16, mem: &[u8], op: u32) -> Change
 }
 
 fn cmpa(z: Size, g: &[u32; 16], at: u32, sr: u16, mem: &[u8], op: u32) -> Change
-    ensures { result ≡ cmpaOf z g.now at sr (mapped mem.now) op }
+    ensures { result ≡ cmpa_of z g.now at sr (mapped mem.now) op }
 {
     let from = source(g, mem, plus(at, 2), op, z);
     let got = from.got;
@@ -68,7 +68,7 @@ pub(crate) fn logic_to_place(
 
 // What a word of line B changes, taken for the instruction of a row.
 pub fn instruction(row: u8, g: &[u32; 16], at: u32, sr: u16, mem: &[u8], op: u32) -> Change
-    ensures { result ≡ lineBOf row g.now at sr (mapped mem.now) op }
+    ensures { result ≡ line_b_of row g.now at sr (mapped mem.now) op }
 {
     match row {
         rows::CMPA_W => cmpa(Size::Word, g, at, sr, mem, op),

@@ -1,6 +1,6 @@
 // Line C: AND, MULU.W and MULS.W.
 ghost use Rattle.std.specs.Prelude.{◌≡◌};
-ghost use Rattle.instructions.specs.LineC.{logic_to_data, product as product_of, mul_w, line_c as lineCOf};
+ghost use Rattle.instructions.specs.LineC.{logic_to_data, product as product_of, mul_w, line_c as line_c_of};
 ghost use Rattle.manual.specs.Memory.{mapped};
 
 use super::lineb::logic_to_place;
@@ -72,7 +72,7 @@ fn mul_w(signs: bool, g: &[u32; 16], at: u32, sr: u16, mem: &[u8], op: u32) -> C
 
 // What a word of line C changes, taken for the instruction of a row.
 pub fn instruction(row: u8, g: &[u32; 16], at: u32, sr: u16, mem: &[u8], op: u32) -> Change
-    ensures { result ≡ lineCOf row g.now at sr (mapped mem.now) op }
+    ensures { result ≡ line_c_of row g.now at sr (mapped mem.now) op }
 {
     match row {
         rows::MULU_W => mul_w(false, g, at, sr, mem, op),

@@ -1,6 +1,6 @@
 // Line E: shifts of a data register.
 ghost use Rattle.std.specs.Prelude.{◌≡◌, ◌<◌};
-ghost use Rattle.instructions.specs.LineE.{shift_count, shifted as shiftedOf, shift as shift_of, line_e as lineEOf};
+ghost use Rattle.instructions.specs.LineE.{shift_count, shifted as shifted_of, shift as shift_of, line_e as line_e_of};
 
 use address::changes::{done, illegal};
 use arith::shift::{shift_codes, shifted_left, shifted_right, signed_shifted_right};
@@ -21,7 +21,7 @@ fn shift_count(g: &[u32; 16], op: u32) -> u32
 
 fn shifted(signs: bool, op: u32, v: u32, n: u32) -> Shifted
     requires { n < 64 }
-    ensures { result ≡ shiftedOf signs op v n }
+    ensures { result ≡ shifted_of signs op v n }
 {
     if op / 256 % 2 == 1 {
         shifted_left(v, n)
@@ -45,7 +45,7 @@ pub fn shift(signs: bool, g: &[u32; 16], at: u32, sr: u16, op: u32) -> Change
 
 // What a word of line E changes, taken for the instruction of a row.
 pub fn instruction(row: u8, g: &[u32; 16], at: u32, sr: u16, op: u32) -> Change
-    ensures { result ≡ lineEOf row g.now at sr op }
+    ensures { result ≡ line_e_of row g.now at sr op }
 {
     match row {
         rows::ASX => shift(true, g, at, sr, op),

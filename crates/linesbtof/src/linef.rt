@@ -1,7 +1,7 @@
 // Line F: cache and debug instructions, and the words of the missing floating-point unit.
 ghost use Rattle.std.specs.Prelude.{◌≡◌};
 ghost use Rattle.manual.specs.Memory.{mapped};
-ghost use Rattle.instructions.specs.LineF.{wdebug as wdebugOf, cache_line, wddata as wddataOf, line_f as lineFOf};
+ghost use Rattle.instructions.specs.LineF.{wdebug as wdebug_of, cache_line, wddata as wddata_of, line_f as line_f_of};
 
 use address::changes::{done, enter, illegal, jump, privilege, refused};
 use address::operands::{control, destination, extension, operand};
@@ -11,7 +11,7 @@ use word::registers::no_write;
 use word::word::{plus, size_of};
 
 fn wdebug(g: &[u32; 16], at: u32, sr: u16, mem: &[u8], op: u32) -> Change
-    ensures { result ≡ wdebugOf g.now at sr (mapped mem.now) op }
+    ensures { result ≡ wdebug_of g.now at sr (mapped mem.now) op }
 {
     let target = operand(op / 8 % 8, op % 8);
     let pc = plus(at, 2);
@@ -35,7 +35,7 @@ fn cache_line(at: u32, sr: u16) -> Change
 }
 
 fn wddata(g: &[u32; 16], at: u32, sr: u16, mem: &[u8], op: u32) -> Change
-    ensures { result ≡ wddataOf g.now at sr (mapped mem.now) op }
+    ensures { result ≡ wddata_of g.now at sr (mapped mem.now) op }
 {
     let to = destination(g, mem, plus(at, 2), op, size_of(op / 64));
     let place = to.place;
@@ -54,7 +54,7 @@ fn wddata(g: &[u32; 16], at: u32, sr: u16, mem: &[u8], op: u32) -> Change
 
 // What a word of line F changes, taken for the instruction of a row.
 pub fn instruction(row: u8, g: &[u32; 16], at: u32, sr: u16, mem: &[u8], op: u32) -> Change
-    ensures { result ≡ lineFOf row g.now at sr (mapped mem.now) op }
+    ensures { result ≡ line_f_of row g.now at sr (mapped mem.now) op }
 {
     match row {
         rows::WDEBUG => wdebug(g, at, sr, mem, op),

@@ -2,7 +2,7 @@
 ghost use Rattle.std.specs.Prelude.{◌≡◌, ◌+◌, ◌*◌, ◌/◌, ◌%◌};
 ghost use Rattle.manual.specs.Memory.{mapped};
 ghost use Rattle.manual.specs.Reply.{outcome};
-ghost use Rattle.instructions.specs.Perform.{status_pushed, perform as performOf};
+ghost use Rattle.instructions.specs.Perform.{status_pushed, perform as perform_of};
 ghost use Rattle.machine.specs.Completed.{completed_step};
 
 use emac::accumulators::{clear_acc, copy_acc, set_acc, set_ext, set_macsr, set_mask};
@@ -45,7 +45,7 @@ fn push_status(given: Cpu, cpu: Cpu, v: u32, mem: &mut [u8]) -> Stepped
 
 // The change done, or refused with nothing changed.
 pub fn perform(given: Cpu, change: Change, mem: &mut [u8]) -> Stepped
-    ensures { outcome result mem.new ≡ performOf given change (mapped mem.old) }
+    ensures { outcome result mem.new ≡ perform_of given change (mapped mem.old) }
 {
     let cpu = applied(given, change);
     let e = cpu.emac;

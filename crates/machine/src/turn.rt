@@ -3,7 +3,7 @@ ghost use Rattle.std.specs.Prelude.{◌≡◌};
 ghost use Rattle.manual.specs.Memory.{mapped};
 ghost use Rattle.manual.specs.Emac.{emac_of};
 ghost use Rattle.manual.specs.Reply.{outcome};
-ghost use Rattle.instructions.specs.Perform.{perform as performOf};
+ghost use Rattle.instructions.specs.Perform.{perform as perform_of};
 ghost use Rattle.instructions.specs.Step.{of_row};
 ghost use Rattle.quick_parts.specs.Effects.{after, agreed};
 
@@ -37,7 +37,7 @@ pub(crate) fn plain(
 
 // On a whole state, where it is not done in place.
 pub(crate) fn performed(row: u8, held: Cpu, mem: &mut [u8], op: u32) -> Stepped
-    ensures { outcome result mem.new ≡ performOf held (of_row row held.r held.pc held.sr held.other held.emac (mapped mem.old) op) (mapped mem.old) }
+    ensures { outcome result mem.new ≡ perform_of held (of_row row held.r held.pc held.sr held.other held.emac (mapped mem.old) op) (mapped mem.old) }
 {
     let g = held.r;
     let acc = held.emac.acc;

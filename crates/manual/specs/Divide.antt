@@ -34,5 +34,5 @@ unfoldable pub signed_word_quotient : ℕ → ℕ → Quotient
 signed_word_quotient a b = cond (eqb (cut Word b) 0) no_quotient (signed_by Word a b)
 
 -- 33. An overflow sets V, clears Z and C, and keeps N. The manual: N is cleared
-unfoldable pub overflowCodes : ℕ → ℕ
-overflowCodes sr = codes (flag_x sr) (flag_n sr) false true false
+unfoldable pub overflow_codes : ℕ → ℕ
+overflow_codes sr = codes (flag_x sr) (flag_n sr) false true false

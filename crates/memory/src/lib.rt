@@ -4,7 +4,7 @@
 pub mod many;
 
 ghost use Rattle.std.specs.Prelude.{◌≡◌, ◌+◌, ◌*◌, ◌/◌, ◌%◌, ◌^◌, ◌<◌, ◌≤◌, length, slice_index, slice_set};
-ghost use Rattle.manual.specs.Memory.{mapped, value_at, store_at, access as accessOf, load as load_of, storing, stored};
+ghost use Rattle.manual.specs.Memory.{mapped, value_at, store_at, access as access_of, load as load_of, storing, stored};
 
 use manual::{Access, Fault, Got, Size, Stored};
 
@@ -52,7 +52,7 @@ pub fn long_at(mem: &[u8], at: usize) -> u32
 
 // Where the n bytes at an address lie, or why they are not to be had: the question that every access asks.
 pub fn access(mem: &[u8], a: u32, n: u32) -> Access
-    ensures { result ≡ accessOf (mapped mem.now) a n }
+    ensures { result ≡ access_of (mapped mem.now) a n }
 {
     if a as usize + n as usize <= mem.len() {
         Access::Here(a)

@@ -1,8 +1,8 @@
 // Bcc with a byte's or a word's displacement, JSR, PEA and MOVEM, done in place.
 ghost use Rattle.std.specs.Prelude.{◌≡◌, true, false, ◌+◌, ◌*◌, ◌/◌, ◌%◌};
 ghost use Rattle.manual.specs.Memory.{mapped};
-ghost use Rattle.instructions.specs.Line4.{jsr as jsrOf, pea as peaOf, movem};
-ghost use Rattle.instructions.specs.Line6.{bcc as bccOf};
+ghost use Rattle.instructions.specs.Line4.{jsr as jsr_of, pea as pea_of, movem};
+ghost use Rattle.instructions.specs.Line6.{bcc as bcc_of};
 ghost use Rattle.quick_parts.specs.Effects.{after, agreed};
 
 use address::changes::{jump, push};
@@ -17,7 +17,7 @@ use word::word::{plus, sign_extended};
 
 // Line6.bcc, of a byte and of a word
 pub fn bcc(g: &mut [u32; 16], pc: u32, sr: u16, mem: &[u8], op: u32) -> Effect
-    ensures { after result g.new mem.now ≡ agreed result (bccOf pc sr (mapped mem.now) op) sr g.old (mapped mem.now) }
+    ensures { after result g.new mem.now ≡ agreed result (bcc_of pc sr (mapped mem.now) op) sr g.old (mapped mem.now) }
 {
     let at = plus(pc, 2);
     let low = op % 256;
@@ -43,7 +43,7 @@ pub fn bcc(g: &mut [u32; 16], pc: u32, sr: u16, mem: &[u8], op: u32) -> Effect
 
 // Line4.jsr, of (An) and of an absolute long
 pub fn jsr(g: &mut [u32; 16], pc: u32, sr: u16, mem: &mut [u8], op: u32) -> Effect
-    ensures { after result g.new mem.new ≡ agreed result (jsrOf g.old pc sr (mapped mem.old) op) sr g.old (mapped mem.old) }
+    ensures { after result g.new mem.new ≡ agreed result (jsr_of g.old pc sr (mapped mem.old) op) sr g.old (mapped mem.old) }
 {
     let at = plus(pc, 2);
     if op / 8 % 8 == 2 {
@@ -66,7 +66,7 @@ pub fn jsr(g: &mut [u32; 16], pc: u32, sr: u16, mem: &mut [u8], op: u32) -> Effe
 
 // Line4.pea, of d16(An)
 pub fn pea(g: &mut [u32; 16], pc: u32, sr: u16, mem: &mut [u8], op: u32) -> Effect
-    ensures { after result g.new mem.new ≡ agreed result (peaOf g.old pc sr (mapped mem.old) op) sr g.old (mapped mem.old) }
+    ensures { after result g.new mem.new ≡ agreed result (pea_of g.old pc sr (mapped mem.old) op) sr g.old (mapped mem.old) }
 {
     if op / 8 % 8 != 5 {
         return Effect::Left;

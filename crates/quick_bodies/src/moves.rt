@@ -2,8 +2,8 @@
 ghost use Rattle.std.specs.Prelude.{◌≡◌, ◌+◌, ◌*◌, ◌/◌, ◌%◌};
 ghost use Rattle.manual.specs.Memory.{mapped};
 ghost use Rattle.manual.specs.declared.Size.TheVariants.{Long};
-ghost use Rattle.instructions.specs.Moves.{move as move_of, movea as moveaOf};
-ghost use Rattle.instructions.specs.Line4.{lea as leaOf, clr as clrOf};
+ghost use Rattle.instructions.specs.Moves.{move as move_of, movea as movea_of};
+ghost use Rattle.instructions.specs.Line4.{lea as lea_of, clr as clr_of};
 ghost use Rattle.quick_parts.specs.Effects.{after, agreed};
 
 use address::changes::{done, store};
@@ -43,7 +43,7 @@ pub fn move_long(g: &mut [u32; 16], pc: u32, sr: u16, mem: &mut [u8], op: u32) -
 
 // Moves.movea Long
 pub fn movea(g: &mut [u32; 16], pc: u32, sr: u16, mem: &[u8], op: u32) -> Effect
-    ensures { after result g.new mem.now ≡ agreed result (moveaOf Long g.old pc sr (mapped mem.now) op) sr g.old (mapped mem.now) }
+    ensures { after result g.new mem.now ≡ agreed result (movea_of Long g.old pc sr (mapped mem.now) op) sr g.old (mapped mem.now) }
 {
     let Reading::Read(v, next, first) = read_long(&*g, mem, plus(pc, 2), op) else {
         return Effect::Left;
@@ -59,7 +59,7 @@ pub fn movea(g: &mut [u32; 16], pc: u32, sr: u16, mem: &[u8], op: u32) -> Effect
 
 // Line4.lea, of d16(An), of d8(An,Xi) and of absolute addresses
 pub fn lea(g: &mut [u32; 16], pc: u32, sr: u16, mem: &[u8], op: u32) -> Effect
-    ensures { after result g.new mem.now ≡ agreed result (leaOf g.old pc sr (mapped mem.now) op) sr g.old (mapped mem.now) }
+    ensures { after result g.new mem.now ≡ agreed result (lea_of g.old pc sr (mapped mem.now) op) sr g.old (mapped mem.now) }
 {
     let Spot::At(a, next, first) = control_spot(&*g, mem, plus(pc, 2), op) else {
         return Effect::Left;
@@ -74,7 +74,7 @@ pub fn lea(g: &mut [u32; 16], pc: u32, sr: u16, mem: &[u8], op: u32) -> Effect
 
 // Line4.clr
 pub fn clr(g: &mut [u32; 16], pc: u32, sr: u16, mem: &mut [u8], op: u32) -> Effect
-    ensures { after result g.new mem.new ≡ agreed result (clrOf g.old pc sr (mapped mem.old) op) sr g.old (mapped mem.old) }
+    ensures { after result g.new mem.new ≡ agreed result (clr_of g.old pc sr (mapped mem.old) op) sr g.old (mapped mem.old) }
 {
     let z = size_of(op / 64);
     let at = plus(pc, 2);

@@ -4,12 +4,12 @@ ghost use Rattle.std.specs.Prelude.{◌≡◌, ℕ, ◌+◌, ◌*◌, ◌/◌, �
 ghost use Rattle.manual.specs.Memory.{Memory, mapped, storage_of};
 ghost use Rattle.manual.specs.declared.Size.TheVariants.{Word};
 ghost use Rattle.manual.specs.declared.Emac.{Emac};
-ghost use Rattle.manual.specs.Word.{plus as plusOf};
+ghost use Rattle.manual.specs.Word.{plus as plus_of};
 ghost use Rattle.manual.specs.Fields.{size_field, byte_or_word};
 ghost use Rattle.manual.specs.Address.{source};
-ghost use Rattle.instructions.specs.Moves.{move as move_of, movea as moveaOf};
-ghost use Rattle.instructions.specs.Line4.{tst as tstOf};
-ghost use Rattle.instructions.specs.Line7.{mvs as mvsOf, mvz as mvzOf};
+ghost use Rattle.instructions.specs.Moves.{move as move_of, movea as movea_of};
+ghost use Rattle.instructions.specs.Line4.{tst as tst_of};
+ghost use Rattle.instructions.specs.Line7.{mvs as mvs_of, mvz as mvz_of};
 ghost use Rattle.instructions.specs.LineC.{mul_w};
 ghost use Rattle.instructions.specs.Step.{of_row};
 ghost use Rattle.quick_parts.specs.Near.{read_as};
@@ -38,7 +38,7 @@ fn move_part(
     next: u32,
     first: Write,
 ) -> Effect
-    ensures { (at : ℕ) → source g.old (mapped mem.old) (plusOf at 2) op z ≡ read_as v next first → after result g.new mem.new ≡ agreed result (move_of z g.old at sr (mapped mem.old) op) sr g.old (mapped mem.old) }
+    ensures { (at : ℕ) → source g.old (mapped mem.old) (plus_of at 2) op z ≡ read_as v next first → after result g.new mem.new ≡ agreed result (move_of z g.old at sr (mapped mem.old) op) sr g.old (mapped mem.old) }
 {
     let codes = move_codes(z, v, sr);
     if op / 64 % 8 == 0 {
@@ -60,7 +60,7 @@ fn move_part(
 
 // Moves.movea Word
 fn movea(g: &mut [u32; 16], sr: u16, op: u32, v: u32, next: u32, first: Write) -> Effect
-    ensures { (at : ℕ) (m : Memory) → source g.old m (plusOf at 2) op Word ≡ read_as v next first → after result g.new (storage_of m) ≡ agreed result (moveaOf Word g.old at sr m op) sr g.old m }
+    ensures { (at : ℕ) (m : Memory) → source g.old m (plus_of at 2) op Word ≡ read_as v next first → after result g.new (storage_of m) ≡ agreed result (movea_of Word g.old at sr m op) sr g.old m }
 {
     let codes = kept_codes(sr);
     let whole = sign_extended(Size::Word, v);
@@ -73,7 +73,7 @@ fn movea(g: &mut [u32; 16], sr: u16, op: u32, v: u32, next: u32, first: Write) -
 
 // Line7.mvz
 fn mvz(g: &mut [u32; 16], sr: u16, op: u32, v: u32, next: u32, first: Write) -> Effect
-    ensures { (at : ℕ) (m : Memory) → source g.old m (plusOf at 2) op (byte_or_word op) ≡ read_as v next first → after result g.new (storage_of m) ≡ agreed result (mvzOf g.old at sr m op) sr g.old m }
+    ensures { (at : ℕ) (m : Memory) → source g.old m (plus_of at 2) op (byte_or_word op) ≡ read_as v next first → after result g.new (storage_of m) ≡ agreed result (mvz_of g.old at sr m op) sr g.old m }
 {
     let codes = long_move_codes(v, sr);
     changed(g, sr, done(next, codes, first, write_data(op / 512 % 8, v)))
@@ -81,7 +81,7 @@ fn mvz(g: &mut [u32; 16], sr: u16, op: u32, v: u32, next: u32, first: Write) -> 
 
 // Line7.mvs
 fn mvs(g: &mut [u32; 16], sr: u16, op: u32, v: u32, next: u32, first: Write) -> Effect
-    ensures { (at : ℕ) (m : Memory) → source g.old m (plusOf at 2) op (byte_or_word op) ≡ read_as v next first → after result g.new (storage_of m) ≡ agreed result (mvsOf g.old at sr m op) sr g.old m }
+    ensures { (at : ℕ) (m : Memory) → source g.old m (plus_of at 2) op (byte_or_word op) ≡ read_as v next first → after result g.new (storage_of m) ≡ agreed result (mvs_of g.old at sr m op) sr g.old m }
 {
     let whole = sign_extended(byte_or_word(op), v);
     let codes = long_move_codes(whole, sr);
@@ -94,7 +94,7 @@ fn mvs(g: &mut [u32; 16], sr: u16, op: u32, v: u32, next: u32, first: Write) -> 
 
 // Line4.tst
 fn tst(g: &mut [u32; 16], sr: u16, op: u32, v: u32, next: u32, first: Write) -> Effect
-    ensures { (at : ℕ) (m : Memory) → source g.old m (plusOf at 2) op (size_field op) ≡ read_as v next first → after result g.new (storage_of m) ≡ agreed result (tstOf g.old at sr m op) sr g.old m }
+    ensures { (at : ℕ) (m : Memory) → source g.old m (plus_of at 2) op (size_field op) ≡ read_as v next first → after result g.new (storage_of m) ≡ agreed result (tst_of g.old at sr m op) sr g.old m }
 {
     let codes = move_codes(size_of(op / 64), v, sr);
     changed(g, sr, done(next, codes, first, no_write()))
@@ -110,7 +110,7 @@ fn mul_w(
     next: u32,
     first: Write,
 ) -> Effect
-    ensures { (at : ℕ) (m : Memory) → source g.old m (plusOf at 2) op Word ≡ read_as v next first → after result g.new (storage_of m) ≡ agreed result (mul_w signs g.old at sr m op) sr g.old m }
+    ensures { (at : ℕ) (m : Memory) → source g.old m (plus_of at 2) op Word ≡ read_as v next first → after result g.new (storage_of m) ≡ agreed result (mul_w signs g.old at sr m op) sr g.old m }
 {
     let r = product(signs, data(&*g, op / 512 % 8), v);
     let codes = long_move_codes(r, sr);

@@ -2,10 +2,10 @@
 ghost use Rattle.std.specs.Prelude.{◌≡◌, true, false, ℕ, ◌+◌, ◌*◌, ◌/◌, ◌%◌};
 ghost use Rattle.manual.specs.Memory.{Memory, mapped, storage_of};
 ghost use Rattle.manual.specs.declared.Size.TheVariants.{Long};
-ghost use Rattle.instructions.specs.Line0.{cmpi as cmpiOf};
-ghost use Rattle.instructions.specs.Line5.{addq as addqOf};
-ghost use Rattle.instructions.specs.Line9D.{add_to_data, adda as addaOf};
-ghost use Rattle.instructions.specs.LineB.{cmp as cmpOf, cmpa as cmpaOf};
+ghost use Rattle.instructions.specs.Line0.{cmpi as cmpi_of};
+ghost use Rattle.instructions.specs.Line5.{addq as addq_of};
+ghost use Rattle.instructions.specs.Line9D.{add_to_data, adda as adda_of};
+ghost use Rattle.instructions.specs.LineB.{cmp as cmp_of, cmpa as cmpa_of};
 ghost use Rattle.quick_parts.specs.Effects.{after, agreed};
 
 use address::changes::done;
@@ -24,7 +24,7 @@ use word::word::{cut, merged, minus, plus, sign_extended};
 
 // LineB.cmp, of a long
 pub fn cmp(g: &mut [u32; 16], pc: u32, sr: u16, mem: &[u8], op: u32) -> Effect
-    ensures { after result g.new mem.now ≡ agreed result (cmpOf g.old pc sr (mapped mem.now) op) sr g.old (mapped mem.now) }
+    ensures { after result g.new mem.now ≡ agreed result (cmp_of g.old pc sr (mapped mem.now) op) sr g.old (mapped mem.now) }
 {
     if op / 64 % 4 != 2 {
         return Effect::Left;
@@ -39,7 +39,7 @@ pub fn cmp(g: &mut [u32; 16], pc: u32, sr: u16, mem: &[u8], op: u32) -> Effect
 
 // LineB.cmpa Long
 pub fn cmpa(g: &mut [u32; 16], pc: u32, sr: u16, mem: &[u8], op: u32) -> Effect
-    ensures { after result g.new mem.now ≡ agreed result (cmpaOf Long g.old pc sr (mapped mem.now) op) sr g.old (mapped mem.now) }
+    ensures { after result g.new mem.now ≡ agreed result (cmpa_of Long g.old pc sr (mapped mem.now) op) sr g.old (mapped mem.now) }
 {
     let Reading::Read(v, next, first) = read_long(&*g, mem, plus(pc, 2), op) else {
         return Effect::Left;
@@ -91,7 +91,7 @@ pub fn sub_to_data(g: &mut [u32; 16], pc: u32, sr: u16, mem: &[u8], op: u32) -> 
 
 // Line9D.adda true Long
 pub fn adda(g: &mut [u32; 16], pc: u32, sr: u16, mem: &[u8], op: u32) -> Effect
-    ensures { after result g.new mem.now ≡ agreed result (addaOf true Long g.old pc sr (mapped mem.now) op) sr g.old (mapped mem.now) }
+    ensures { after result g.new mem.now ≡ agreed result (adda_of true Long g.old pc sr (mapped mem.now) op) sr g.old (mapped mem.now) }
 {
     let Reading::Read(v, next, first) = read_long(&*g, mem, plus(pc, 2), op) else {
         return Effect::Left;
@@ -108,7 +108,7 @@ pub fn adda(g: &mut [u32; 16], pc: u32, sr: u16, mem: &[u8], op: u32) -> Effect
 
 // Line9D.adda false Long
 pub fn suba(g: &mut [u32; 16], pc: u32, sr: u16, mem: &[u8], op: u32) -> Effect
-    ensures { after result g.new mem.now ≡ agreed result (addaOf false Long g.old pc sr (mapped mem.now) op) sr g.old (mapped mem.now) }
+    ensures { after result g.new mem.now ≡ agreed result (adda_of false Long g.old pc sr (mapped mem.now) op) sr g.old (mapped mem.now) }
 {
     let Reading::Read(v, next, first) = read_long(&*g, mem, plus(pc, 2), op) else {
         return Effect::Left;
@@ -125,7 +125,7 @@ pub fn suba(g: &mut [u32; 16], pc: u32, sr: u16, mem: &[u8], op: u32) -> Effect
 
 // Line5.addq, of a long in Dn
 pub fn addq(g: &mut [u32; 16], pc: u32, sr: u16, op: u32) -> Effect
-    ensures { (m : Memory) → after result g.new (storage_of m) ≡ agreed result (addqOf g.old pc m op) sr g.old m }
+    ensures { (m : Memory) → after result g.new (storage_of m) ≡ agreed result (addq_of g.old pc m op) sr g.old m }
 {
     if op / 8 % 8 != 0 {
         return Effect::Left;
@@ -157,7 +157,7 @@ pub fn addq(g: &mut [u32; 16], pc: u32, sr: u16, op: u32) -> Effect
 
 // Line0.cmpi Long
 pub fn cmpi(g: &mut [u32; 16], pc: u32, sr: u16, mem: &[u8], op: u32) -> Effect
-    ensures { after result g.new mem.now ≡ agreed result (cmpiOf Long g.old pc sr (mapped mem.now) op) sr g.old (mapped mem.now) }
+    ensures { after result g.new mem.now ≡ agreed result (cmpi_of Long g.old pc sr (mapped mem.now) op) sr g.old (mapped mem.now) }
 {
     let at = plus(pc, 2);
     let v = match load(mem, at, Size::Long) {

@@ -15,7 +15,7 @@ use Rattle.manual.specs.declared.Write.{Write}
 use Rattle.manual.specs.Word.{plus}
 use Rattle.manual.specs.Registers.{no_write}
 use Rattle.manual.specs.Memory.{Memory, load}
-use Rattle.manual.specs.Address.{extension, locate, moved, source, control, reached as reachedAt}
+use Rattle.manual.specs.Address.{extension, locate, moved, source, control, reached as reached_at}
 use Rattle.manual.specs.Change.{done, put, store}
 use Rattle.quick_parts.specs.declared.Spot.{Spot}
 use Rattle.quick_parts.specs.declared.Spot.TheVariants.{At, NotNear}
@@ -76,10 +76,10 @@ pub control-at : (s : Spot) (c : Controlled) (a next : ℕ) (w : Write) → s �
 control-at s c a next w q h = sym (rw q at h)
 
 -- where an operand is that has a control address and moves nothing
-pub spot_controlled : (s : Spot) (g : List ℕ) (m : Memory) (pc : ℕ) (o : Operand) → control g m pc o ≡ reachedAt (locate g m pc o Long) → moved g o Long ≡ no_write
+pub spot_controlled : (s : Spot) (g : List ℕ) (m : Memory) (pc : ℕ) (o : Operand) → control g m pc o ≡ reached_at (locate g m pc o Long) → moved g o Long ≡ no_write
     → spotted s (located g m pc o Long) ≡ located g m pc o Long → controlled_at s (controlled g m pc o) ≡ controlled g m pc o
 spot_controlled (At a next w) g m pc o q n h =
-    ap (λ (l : Located). record { reached = reachedAt l.place; next = l.next; step = l.step }) h ∙ rw (q, n) refl
+    ap (λ (l : Located). record { reached = reached_at l.place; next = l.next; step = l.step }) h ∙ rw (q, n) refl
 spot_controlled NotNear g m pc o q n h = refl
 
 -- what is put in memory is stored: the operand's move comes second after another operand's, or first

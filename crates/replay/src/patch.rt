@@ -1,7 +1,7 @@
 // Runs of bytes that are put into an array.
 ghost use Rattle.std.specs.Prelude.{◌≡◌, ◌+◌, ◌≤◌, min, length, drop};
-ghost use Rattle.std.proofs.Math.Seq.{paste as pasteOf};
-ghost use Rattle.replay.specs.Patches.{put as put_of, next_at, next_place, put_run, patched, patch as patchedOf};
+ghost use Rattle.std.proofs.Math.Seq.{paste as paste_of};
+ghost use Rattle.replay.specs.Patches.{put as put_of, next_at, next_place, put_run, patched, patch as patched_of};
 
 use super::number::byte_at;
 
@@ -19,7 +19,7 @@ fn onward(at: usize, n: usize, end: usize) -> usize
 // n bytes of the file, from `at` on, at a place of `to`.
 fn paste(file: &[u8], at: usize, n: usize, to: &mut [u8], place: usize)
     requires { (at + n ≤ length file.now) × (place + n ≤ length to.old) }
-    ensures { to.new ≡ pasteOf to.old place (drop at file.now) n }
+    ensures { to.new ≡ paste_of to.old place (drop at file.now) n }
 {
     let mut i: usize = 0;
     while i < n {
@@ -67,7 +67,7 @@ fn put_run(file: &[u8], from: Spot, to: &mut [u8]) -> Spot
 // Puts the runs that the file has at `from` into `to`, and returns the place after them.
 pub(crate) fn patch(file: &[u8], from: usize, to: &mut [u8]) -> usize
     requires { from ≤ length file.now }
-    ensures { (patched result to.new ≡ patchedOf file.now from to.old) × (result ≤ length file.now) }
+    ensures { (patched result to.new ≡ patched_of file.now from to.old) × (result ≤ length file.now) }
 {
     let n = byte_at(file, from);
     let mut spot = Spot {

@@ -5,7 +5,7 @@ use mathlib.Core.{Bool.cond, Bool.◌&&◌, List.List, List.[], List.◌∷◌, 
 use lib.{Dec.leb, ListN.length, ListN.drop}
 use Rattle.manual.specs.declared.{Cpu.Cpu, Reply.Reply, Reply.TheVariants.WrongLength}
 use Rattle.manual.specs.{Registers.with_address, Registers.with_pc, Registers.with_sr, Memory.Storage, Memory.value_at, Reply.is_done, Lent.lent, Lent.state_refusal, Block.fresh}
-use Rattle.manual.specs.Image.{space, newline, decimal, answer_line, text_of as printedOf}
+use Rattle.manual.specs.Image.{space, newline, decimal, answer_line, text_of as printed_of}
 use Rattle.instructions.specs.{Run.run, ImageRun.ImageRan, ImageRun.image_ran, ImageRun.ran_text}
 use Rattle.srecord.specs.declared.{TextReply.TextReply}
 use Rattle.srecord.specs.{Reading.Read, Reading.text_done, Reading.read_text, TextCalls.text_number}
@@ -45,7 +45,7 @@ text_ran f b =
     let r : Read = read_text (drop text_at f) b in
     cond (text_done r.answer.reply)
     (ran_text (run (value_at f budget_at 4) (text_state f r.answer.start) (lent r.storage)))
-    (image_ran (printedOf (text_answer r.answer.reply)) r.storage)
+    (image_ran (printed_of (text_answer r.answer.reply)) r.storage)
 
 unfoldable pub text_run : List ℕ → Storage → ImageRan
-text_run f b = cond (is_done (head_reply f)) (text_ran f b) (image_ran (printedOf (answer_line (head_reply f))) b)
+text_run f b = cond (is_done (head_reply f)) (text_ran f b) (image_ran (printed_of (answer_line (head_reply f))) b)

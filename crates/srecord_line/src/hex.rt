@@ -1,7 +1,7 @@
 // The digits of a record, and the bytes that they are.
 ghost use Rattle.std.specs.Prelude.{◌≡◌, true, cond, ◌&&◌, ◌+◌, ◌*◌, ◌%◌, ◌≤◌, ◌<◌, leb, ltb, length, get_or};
 ghost use Rattle.manual.specs.Memory.{value_at};
-ghost use Rattle.srecord.specs.Records.{worth as worthOf, is_hex, unhexed, total};
+ghost use Rattle.srecord.specs.Records.{worth as worth_of, is_hex, unhexed, total};
 
 use super::Scan;
 
@@ -14,14 +14,14 @@ fn between(from: u8, c: u8, to: u8) -> u8
 
 // 1 for a hex digit, 0 for any other character.
 fn is_digit(c: u8) -> u8
-    ensures { (result ≡ cond (ltb (worthOf c) 16) 1 0) × (result ≤ 1) }
+    ensures { (result ≡ cond (ltb (worth_of c) 16) 1 0) × (result ≤ 1) }
 {
     between(b'0', c, b'9') + between(b'A', c, b'F') + between(b'a', c, b'f')
 }
 
 // What a digit is worth. The low four bits of a letter are 1 to 6, and it lies above 64.
 fn worth(c: u8) -> u8
-    ensures { (worthOf c < 16 → result ≡ worthOf c) × (result ≤ 42) }
+    ensures { (worth_of c < 16 → result ≡ worth_of c) × (result ≤ 42) }
 {
     c % 16 + 9 * (c / 64)
 }

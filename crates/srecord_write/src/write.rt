@@ -3,7 +3,7 @@ ghost use Rattle.std.specs.Prelude.{◌≡◌, [], ◌∷◌, ◌++◌, ◌+◌,
 ghost use Rattle.std.proofs.lemmas.List.Edits.{sets};
 ghost use Rattle.manual.specs.Lent.{longest};
 ghost use Rattle.srecord.specs.Records.{total};
-ghost use Rattle.srecord.specs.Writing.{digit as digitOf, hexed, four, line_of, data_lines, range, text_of, writing, write_refused, write_text};
+ghost use Rattle.srecord.specs.Writing.{digit as digit_of, hexed, four, line_of, data_lines, range, text_of, writing, write_refused, write_text};
 ghost use Rattle.srecord.specs.TextCalls.{text_called, write_call};
 
 use srecord::{TextReply, WriteAnswer};
@@ -11,7 +11,7 @@ use srecord_line::replies::text_number;
 
 fn digit(d: u8) -> u8
     requires { d < 16 }
-    ensures { result ≡ digitOf d }
+    ensures { result ≡ digit_of d }
 {
     if d < 10 {
         return 48 + d;

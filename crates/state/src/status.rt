@@ -1,8 +1,8 @@
 // The status register, and the states that a call takes.
 ghost use Rattle.std.specs.Prelude.{◌≡◌, ◌+◌, ◌*◌, ◌/◌, ◌%◌, ◌^◌};
-ghost use Rattle.manual.specs.Admitted.{status as statusOf, emac_admitted, admitted as admittedOf};
+ghost use Rattle.manual.specs.Admitted.{status as status_of, emac_admitted, admitted as admitted_of};
 ghost use Rattle.manual.specs.Lent.{lent, lent_refusal, first_refusal};
-ghost use Rattle.manual.specs.Exceptions.{set_sr, handler_sr as handlerSrOf};
+ghost use Rattle.manual.specs.Exceptions.{set_sr, handler_sr as handler_sr_of};
 
 use super::replies::is_done;
 use manual::{Cpu, Emac, Level, Reply};
@@ -14,7 +14,7 @@ const LONGEST: usize = 0x100_0000;
 
 // The bits of 0xB71F.
 pub fn status(v: u32) -> u16
-    ensures { result ≡ statusOf v }
+    ensures { result ≡ status_of v }
 {
     (v / 0x8000 % 2 * 0x8000 + v / 0x1000 % 4 * 0x1000 + v / 0x100 % 8 * 0x100 + v % 32) as u16
 }
@@ -31,7 +31,7 @@ pub fn emac_admitted(e: Emac) -> bool
 
 // Whether a state is admitted.
 pub fn admitted(cpu: Cpu) -> bool
-    ensures { result ≡ admittedOf cpu }
+    ensures { result ≡ admitted_of cpu }
 {
     let e = cpu.emac;
     let kept = status(cpu.sr as u32);
@@ -81,7 +81,7 @@ pub fn with_status(cpu: Cpu, v: u32) -> Cpu
 
 // The status register in a handler: S set, T clear, the mask by the level.
 pub fn handler_sr(level: Level, sr: u16) -> u16
-    ensures { result ≡ handlerSrOf level sr }
+    ensures { result ≡ handler_sr_of level sr }
 {
     match level {
         Level::Kept => sr / 0x4000 % 2 * 0x4000 + 0x2000 + sr % 0x2000,

@@ -1,12 +1,12 @@
 // The conditions of Bcc and Scc.
 ghost use Rattle.std.specs.Prelude.{◌≡◌, ◌%◌};
-ghost use Rattle.manual.specs.Conditions.{condition as conditionOf};
+ghost use Rattle.manual.specs.Conditions.{condition as condition_of};
 
 use super::flags::{both, either, same};
 
 // Whether condition n of Bcc and Scc holds in a status register.
 pub fn condition(number: u32, sr: u16) -> bool
-    ensures { result ≡ conditionOf (number % 16) sr }
+    ensures { result ≡ condition_of (number % 16) sr }
 {
     let n = sr / 8 % 2 == 1;
     let z = sr / 4 % 2 == 1;

@@ -2,7 +2,7 @@
 ghost use Rattle.std.specs.Prelude.{◌≡◌, ◌+◌, ◌*◌, ◌%◌, ◌^◌, ◌<◌, ◌≤◌, ◌&&◌, ◌||◌};
 ghost use Rattle.std.specs.Bool.{beq};
 ghost use Rattle.manual.specs.Word.{bit as bit_of};
-ghost use Rattle.manual.specs.Flags.{codes as codes_of, kept_codes, move_codes, added as addedOf, subtracted as subtractedOf, sum_or_difference, sum_codes, compare_codes, extended_codes, test_codes};
+ghost use Rattle.manual.specs.Flags.{codes as codes_of, kept_codes, move_codes, added as added_of, subtracted as subtracted_of, sum_or_difference, sum_codes, compare_codes, extended_codes, test_codes};
 
 use super::bits::with_bit;
 use super::word::{cut, half, numbers};
@@ -73,7 +73,7 @@ fn wrapped(total: u64, n: u64) -> u64
 
 // V is told by the sign bits: two of one sign have a sum of the other.
 fn added(z: Size, s: u32, d: u32, x: bool) -> Sum
-    ensures { result ≡ addedOf z s d x }
+    ensures { result ≡ added_of z s d x }
 {
     let n = numbers(z);
     let h = half(z);
@@ -95,7 +95,7 @@ fn added(z: Size, s: u32, d: u32, x: bool) -> Sum
 // The difference d - s - x of a size, with its N, Z, V and C.
 // V is told by the sign bits: the signs differ, and the difference does not have the minuend's.
 pub fn subtracted(z: Size, s: u32, d: u32, x: bool) -> Sum
-    ensures { result ≡ subtractedOf z s d x }
+    ensures { result ≡ subtracted_of z s d x }
 {
     let n = numbers(z);
     let h = half(z);

@@ -1,6 +1,6 @@
 // The registers by number, register writes, and the state with a part replaced.
 ghost use Rattle.std.specs.Prelude.{◌≡◌, ◌+◌, ◌-◌, ◌*◌, ◌/◌, ◌%◌, ◌^◌, ◌<◌, ◌≤◌};
-ghost use Rattle.manual.specs.Registers.{data_of, address_of, general as generalOf, no_write, write_data, write_address, write_general, written as written_of, with_parts, with_registers, with_address, with_pc, with_sr, with_other, with_emac, with_stopped, coded as codedOf, applied as appliedOf};
+ghost use Rattle.manual.specs.Registers.{data_of, address_of, general as general_of, no_write, write_data, write_address, write_general, written as written_of, with_parts, with_registers, with_address, with_pc, with_sr, with_other, with_emac, with_stopped, coded as coded_of, applied as applied_of};
 
 use manual::{Change, Cpu, Emac, Write};
 
@@ -22,7 +22,7 @@ pub fn address(g: &[u32; 16], r: u32) -> u32
 
 // Register n of D0 to A7, modulo 16.
 pub fn general(g: &[u32; 16], n: u32) -> u32
-    ensures { result ≡ generalOf g.now n }
+    ensures { result ≡ general_of g.now n }
 {
     let i = (n % 16) as usize;
     g[i]
@@ -165,14 +165,14 @@ pub fn with_stopped(cpu: Cpu, stopped: bool) -> Cpu
 
 // A status register with its flags replaced.
 pub fn coded(sr: u16, c: u32) -> u16
-    ensures { result ≡ codedOf sr c }
+    ensures { result ≡ coded_of sr c }
 {
     sr / 32 * 32 + (c % 32) as u16
 }
 
 // The state after a change's two writes, its PC and its flags.
 pub fn applied(cpu: Cpu, change: Change) -> Cpu
-    ensures { result ≡ appliedOf cpu change }
+    ensures { result ≡ applied_of cpu change }
 {
     let first = change.first;
     let second = change.second;

@@ -1,7 +1,7 @@
 // Numbers of 8, 16 and 32 bits.
 ghost use Rattle.std.specs.Prelude.{◌≡◌, ◌%◌};
 ghost use Rattle.manual.specs.Fields.{byte_or_word};
-ghost use Rattle.manual.specs.Word.{bytes as bytes_of, half as half_of, numbers as numbersOf, size_of, cut as cut_of, merged as mergedOf, plus as plusOf, minus as minusOf, sign_extended};
+ghost use Rattle.manual.specs.Word.{bytes as bytes_of, half as half_of, numbers as numbers_of, size_of, cut as cut_of, merged as merged_of, plus as plus_of, minus as minus_of, sign_extended};
 
 use manual::Size;
 
@@ -27,7 +27,7 @@ pub(crate) fn half(z: Size) -> u64
 }
 
 pub(crate) fn numbers(z: Size) -> u64
-    ensures { result ≡ numbersOf z }
+    ensures { result ≡ numbers_of z }
 {
     match z {
         Size::Byte => 0x100,
@@ -71,7 +71,7 @@ pub fn cut(z: Size, v: u32) -> u32
 
 // A long whose low part is replaced by another's.
 pub fn merged(z: Size, old: u32, v: u32) -> u32
-    ensures { result ≡ mergedOf z old v }
+    ensures { result ≡ merged_of z old v }
 {
     match z {
         Size::Byte => old / 0x100 * 0x100 + v % 0x100,
@@ -82,14 +82,14 @@ pub fn merged(z: Size, old: u32, v: u32) -> u32
 
 // A sum of longs, wrapped.
 pub fn plus(a: u32, b: u32) -> u32
-    ensures { result ≡ plusOf a b }
+    ensures { result ≡ plus_of a b }
 {
     std::num::wrapping_add_u32(a, b)
 }
 
 // A difference of longs, wrapped.
 pub fn minus(a: u32, b: u32) -> u32
-    ensures { result ≡ minusOf a b }
+    ensures { result ≡ minus_of a b }
 {
     std::num::wrapping_sub_u32(a, b)
 }

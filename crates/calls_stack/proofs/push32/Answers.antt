@@ -1,18 +1,18 @@
 -- `calls_stack::push32` meets its contract. Assumes nothing.
 use Rattle.memory.specs.MemoryLaws.{not-stored}
-use Rattle.manual.specs.Exceptions.{push32 as push32Of}
+use Rattle.manual.specs.Exceptions.{push32 as push32_of}
 use Rattle.calls_stack.proofs.push32.Goals as goal
 
 pub returns-then-not-is_done : goal.returns-then-not-is_done
-unfolding push32Of
+unfolding push32_of
 returns-then-not-is_done c = rw (← c.first_refusal-first.ensures, ← c.is_done.ensures, c.if-not-is_done.true, ← c.refusal.ensures)
 
 pub returns-in-Done : goal.returns-in-Done
-unfolding push32Of
+unfolding push32_of
 returns-in-Done c =
     rw (← c.first_refusal-first.ensures, ← c.is_done.ensures, c.if-not-is_done.false, ← c.address.ensures, ← c.minus-sp.ensures, c.store.ensures.1, ← c.store.ensures.0, c.in-Done.is, ← c.with_address-next.ensures)
 
 pub returns-in-Fault : goal.returns-in-Fault
-unfolding push32Of
+unfolding push32_of
 returns-in-Fault c =
     rw (← c.first_refusal-first.ensures, ← c.is_done.ensures, c.if-not-is_done.false, ← c.address.ensures, ← c.minus-sp.ensures, c.store.ensures.1, not-stored _ _ _ _ _ _ c.store.ensures.0 c.in-Fault.is, ← c.store.ensures.0, c.in-Fault.is, ← c.faulted.ensures)

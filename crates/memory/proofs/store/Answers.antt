@@ -1,8 +1,8 @@
 -- `memory::store` meets its contract. Assumes nothing.
 use Rattle.std.proofs.Common.{refl, arith}
 use Rattle.memory.specs.MemoryLaws.{here-inside, store-one}
-use Rattle.manual.specs.Memory.{storing as storingOf}
-use Rattle.manual.specs.Memory.{stored as storedOf}
+use Rattle.manual.specs.Memory.{storing as storing_of}
+use Rattle.manual.specs.Memory.{stored as stored_of}
 use Rattle.memory.proofs.store.Goals as goal
 
 pub bounds-mem-i : goal.bounds-mem-i
@@ -15,31 +15,31 @@ pub store_long-requires : goal.store_long-requires
 store_long-requires c = here-inside _ _ 4 _ _ c.in-Here-access-2.is c.access-in-Long.ensures
 
 pub returns-in-Here : goal.returns-in-Here
-unfolding storingOf storedOf
+unfolding storing_of stored_of
 returns-in-Here c =
     rw (c.in-Byte.is, ← c.access.ensures, c.in-Here.is, store-one) (refl, refl)
 
 pub returns-in-Not : goal.returns-in-Not
-unfolding storingOf storedOf
+unfolding storing_of stored_of
 returns-in-Not c =
     rw (c.in-Byte.is, ← c.access.ensures, c.in-Not.is) (refl, refl)
 
 pub returns-in-Here-access : goal.returns-in-Here-access
-unfolding storingOf storedOf
+unfolding storing_of stored_of
 returns-in-Here-access c =
     rw (c.in-Word.is, ← c.access-in-Word.ensures, c.in-Here-access.is, ← c.store_word.ensures) (refl, refl)
 
 pub returns-in-Not-access : goal.returns-in-Not-access
-unfolding storingOf storedOf
+unfolding storing_of stored_of
 returns-in-Not-access c =
     rw (c.in-Word.is, ← c.access-in-Word.ensures, c.in-Not-access.is) (refl, refl)
 
 pub returns-in-Here-access-2 : goal.returns-in-Here-access-2
-unfolding storingOf storedOf
+unfolding storing_of stored_of
 returns-in-Here-access-2 c =
     rw (c.in-Long.is, ← c.access-in-Long.ensures, c.in-Here-access-2.is, ← c.store_long.ensures) (refl, refl)
 
 pub returns-in-Not-access-2 : goal.returns-in-Not-access-2
-unfolding storingOf storedOf
+unfolding storing_of stored_of
 returns-in-Not-access-2 c =
     rw (c.in-Long.is, ← c.access-in-Long.ensures, c.in-Not-access-2.is) (refl, refl)

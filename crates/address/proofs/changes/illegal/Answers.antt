@@ -1,6 +1,6 @@
-use Rattle.manual.specs.Change.{illegal as illegalOf}
+use Rattle.manual.specs.Change.{illegal as illegal_of}
 use Rattle.address.proofs.changes.illegal.Goals as goal
 
 pub returns : goal.returns
-unfolding illegalOf
+unfolding illegal_of
 returns c = rw (← c.enter.ensures)

@@ -1,6 +1,6 @@
-use Rattle.manual.specs.Change.{privilege as privilegeOf}
+use Rattle.manual.specs.Change.{privilege as privilege_of}
 use Rattle.address.proofs.changes.privilege.Goals as goal
 
 pub returns : goal.returns
-unfolding privilegeOf
+unfolding privilege_of
 returns c = rw (← c.enter.ensures)

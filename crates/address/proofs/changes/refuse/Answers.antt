@@ -1,6 +1,6 @@
-use Rattle.manual.specs.Change.{refuse as refuseOf}
+use Rattle.manual.specs.Change.{refuse as refuse_of}
 use Rattle.address.proofs.changes.refuse.Goals as goal
 
 pub returns : goal.returns
-unfolding refuseOf
+unfolding refuse_of
 returns c = rw (← c.no_write-none.ensures)

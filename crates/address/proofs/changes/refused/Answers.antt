@@ -1,6 +1,6 @@
-use Rattle.manual.specs.Change.{refused as refusedOf}
+use Rattle.manual.specs.Change.{refused as refused_of}
 use Rattle.address.proofs.changes.refused.Goals as goal
 
 pub returns : goal.returns
-unfolding refusedOf
+unfolding refused_of
 returns c = rw (← c.fault_reply.ensures, ← c.refuse.ensures)

@@ -1,78 +1,78 @@
-use Rattle.manual.specs.Address.{locate as locateOf}
+use Rattle.manual.specs.Address.{locate as locate_of}
 use Rattle.address.proofs.operands.locate.Goals as goal
 
 pub returns-in-Value : goal.returns-in-Value
-unfolding locateOf
+unfolding locate_of
 returns-in-Value c = rw (c.in-Displaced.is, ← c.load.ensures, c.in-Value.is, ← c.address-in-Value.ensures, ← c.sign_extended.ensures, ← c.plus.ensures)
 
 pub returns-in-Value-load : goal.returns-in-Value-load
-unfolding locateOf
+unfolding locate_of
 returns-in-Value-load c = rw (c.in-Indexed.is, ← c.load-in-Indexed.ensures, c.in-Value-load.is, ← c.address-in-Value-load.ensures, ← c.indexed.ensures)
 
 pub returns-in-Value-load-2 : goal.returns-in-Value-load-2
-unfolding locateOf
+unfolding locate_of
 returns-in-Value-load-2 c = rw (c.in-AbsoluteWord.is, ← c.load-in-AbsoluteWord.ensures, c.in-Value-load-2.is, ← c.sign_extended-in-Value-load-2.ensures)
 
 pub returns-in-Value-load-4 : goal.returns-in-Value-load-4
-unfolding locateOf
+unfolding locate_of
 returns-in-Value-load-4 c = rw (c.in-PcDisplaced.is, ← c.load-in-PcDisplaced.ensures, c.in-Value-load-4.is, ← c.sign_extended-in-Value-load-4.ensures, ← c.plus-in-Value-load-4.ensures)
 
 pub returns-in-Value-load-5 : goal.returns-in-Value-load-5
-unfolding locateOf
+unfolding locate_of
 returns-in-Value-load-5 c = rw (c.in-PcIndexed.is, ← c.load-in-PcIndexed.ensures, c.in-Value-load-5.is, ← c.indexed-in-Value-load-5.ensures)
 
 pub returns-in-Data : goal.returns-in-Data
-unfolding locateOf
+unfolding locate_of
 returns-in-Data c = rw c.in-Data.is
 
 pub returns-in-Address : goal.returns-in-Address
-unfolding locateOf
+unfolding locate_of
 returns-in-Address c = rw c.in-Address.is
 
 pub returns-in-Indirect : goal.returns-in-Indirect
-unfolding locateOf
+unfolding locate_of
 returns-in-Indirect c = rw (c.in-Indirect.is, ← c.address.ensures)
 
 pub returns-in-PostIncrement : goal.returns-in-PostIncrement
-unfolding locateOf
+unfolding locate_of
 returns-in-PostIncrement c = rw (c.in-PostIncrement.is, ← c.address-in-PostIncrement.ensures)
 
 pub returns-in-PreDecrement : goal.returns-in-PreDecrement
-unfolding locateOf
+unfolding locate_of
 returns-in-PreDecrement c = rw (c.in-PreDecrement.is, ← c.address-in-PreDecrement.ensures, ← c.bytes.ensures, ← c.minus.ensures)
 
 pub returns-in-Fault : goal.returns-in-Fault
-unfolding locateOf
+unfolding locate_of
 returns-in-Fault c = rw (c.in-Displaced.is, ← c.load.ensures, c.in-Fault.is)
 
 pub returns-in-Fault-load : goal.returns-in-Fault-load
-unfolding locateOf
+unfolding locate_of
 returns-in-Fault-load c = rw (c.in-Indexed.is, ← c.load-in-Indexed.ensures, c.in-Fault-load.is)
 
 pub returns-in-Fault-load-2 : goal.returns-in-Fault-load-2
-unfolding locateOf
+unfolding locate_of
 returns-in-Fault-load-2 c = rw (c.in-AbsoluteWord.is, ← c.load-in-AbsoluteWord.ensures, c.in-Fault-load-2.is)
 
 pub returns-in-Value-load-3 : goal.returns-in-Value-load-3
-unfolding locateOf
+unfolding locate_of
 returns-in-Value-load-3 c = rw (c.in-AbsoluteLong.is, ← c.load-in-AbsoluteLong.ensures, c.in-Value-load-3.is)
 
 pub returns-in-Fault-load-3 : goal.returns-in-Fault-load-3
-unfolding locateOf
+unfolding locate_of
 returns-in-Fault-load-3 c = rw (c.in-AbsoluteLong.is, ← c.load-in-AbsoluteLong.ensures, c.in-Fault-load-3.is)
 
 pub returns-in-Fault-load-4 : goal.returns-in-Fault-load-4
-unfolding locateOf
+unfolding locate_of
 returns-in-Fault-load-4 c = rw (c.in-PcDisplaced.is, ← c.load-in-PcDisplaced.ensures, c.in-Fault-load-4.is)
 
 pub returns-in-Fault-load-5 : goal.returns-in-Fault-load-5
-unfolding locateOf
+unfolding locate_of
 returns-in-Fault-load-5 c = rw (c.in-PcIndexed.is, ← c.load-in-PcIndexed.ensures, c.in-Fault-load-5.is)
 
 pub returns-in-Immediate : goal.returns-in-Immediate
-unfolding locateOf
+unfolding locate_of
 returns-in-Immediate c = rw (c.in-Immediate.is, ← c.immediate.ensures)
 
 pub returns-in-Zero : goal.returns-in-Zero
-unfolding locateOf
+unfolding locate_of
 returns-in-Zero c = rw c.in-Zero.is

@@ -1,12 +1,12 @@
 -- `image::print::digit` meets its contract. Assumes nothing.
 use borrow.Author.Tests.{lt-ltb, le-ltb}
-use Rattle.manual.specs.Image.{digit as digitOf}
+use Rattle.manual.specs.Image.{digit as digit_of}
 use Rattle.image.proofs.print.digit.Goals as goal
 
 pub returns-then-d-lt10 : goal.returns-then-d-lt10
-unfolding digitOf
+unfolding digit_of
 returns-then-d-lt10 c = rw (lt-ltb _ _ c.if-d-lt10.true)
 
 pub returns : goal.returns
-unfolding digitOf
+unfolding digit_of
 returns c = rw (le-ltb _ _ c.if-d-lt10.false)

@@ -1,18 +1,18 @@
-use Rattle.line4.specs.ControlAddress.{control_address as controlAddressOf}
+use Rattle.line4.specs.ControlAddress.{control_address as control_address_of}
 use Rattle.line4.proofs.control.control_address.Goals as goal
 
 pub returns-in_default : goal.returns-in_default
-unfolding controlAddressOf
+unfolding control_address_of
 returns-in_default c =
     rw (← c.plus-pc.ensures, ← c.operand-target.ensures, ← c.control.ensures, c.in_default.is, ← c.illegal.ensures)
 
 pub returns-in-Value : goal.returns-in-Value
-unfolding controlAddressOf
+unfolding control_address_of
 returns-in-Value c =
     rw (← c.plus-pc.ensures, ← c.operand-target.ensures, ← c.control.ensures, c.in-At.is, c.in-Value.is, ← c.extension.ensures, ← c.plus.ensures)
 
 pub returns-in-Fault : goal.returns-in-Fault
-unfolding controlAddressOf
+unfolding control_address_of
 returns-in-Fault c =
     rw (← c.plus-pc.ensures, ← c.operand-target.ensures, ← c.control.ensures, c.in-At.is, c.in-Fault.is, ← c.refused.ensures)
 

@@ -1,29 +1,29 @@
 use borrow.Author.Tests.{eq-eqb, ne_eqb}
-use Rattle.instructions.specs.Line4.{movem as movemOf}
+use Rattle.instructions.specs.Line4.{movem as movem_of}
 use Rattle.line4.proofs.control.movem.Goals as goal
 
 pub returns-in-Fault : goal.returns-in-Fault
-unfolding movemOf
+unfolding movem_of
 returns-in-Fault c =
     rw (← c.plus-pc.ensures, ← c.address-a.ensures, ← c.load.ensures, c.in-Fault.is, ← c.refused.ensures)
 
 pub returns-then-op-eq2 : goal.returns-then-op-eq2
-unfolding movemOf
+unfolding movem_of
 returns-then-op-eq2 c =
     rw (← c.plus-pc.ensures, ← c.address-a.ensures, ← c.load.ensures, c.in-Value.is, eq-eqb _ _ c.if-op-eq2.true, ← c.plus.ensures, ← c.many.ensures)
 
 pub returns-then-op-ne5 : goal.returns-then-op-ne5
-unfolding movemOf
+unfolding movem_of
 returns-then-op-ne5 c =
     rw (← c.plus-pc.ensures, ← c.address-a.ensures, ← c.load.ensures, c.in-Value.is, ne_eqb _ _ c.if-op-eq2.false, ne_eqb _ _ c.if-op-ne5.true, ← c.illegal.ensures)
 
 pub returns-in-Fault-load : goal.returns-in-Fault-load
-unfolding movemOf
+unfolding movem_of
 returns-in-Fault-load c =
     rw (← c.plus-pc.ensures, ← c.address-a.ensures, ← c.load.ensures, c.in-Value.is, ne_eqb _ _ c.if-op-eq2.false, eq-eqb _ _ c.if-op-ne5.false, ← c.plus-2.ensures, ← c.load-2.ensures, c.in-Fault-load.is, ← c.refused-in-Fault-load.ensures)
 
 pub returns : goal.returns
-unfolding movemOf
+unfolding movem_of
 returns c =
     rw (← c.plus-pc.ensures, ← c.address-a.ensures, ← c.load.ensures, c.in-Value.is, ne_eqb _ _ c.if-op-eq2.false, eq-eqb _ _ c.if-op-ne5.false, ← c.plus-2.ensures, ← c.load-2.ensures, c.in-Value-load.is, ← c.plus-next.ensures, ← c.sign_extended.ensures, ← c.plus-3.ensures, ← c.many-2.ensures)
 

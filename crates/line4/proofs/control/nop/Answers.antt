@@ -1,14 +1,14 @@
-use Rattle.instructions.specs.Line4.{nop as nopOf}
+use Rattle.instructions.specs.Line4.{nop as nop_of}
 use Rattle.line4.proofs.control.nop.Goals as goal
 
 pub returns : goal.returns
-unfolding nopOf
+unfolding nop_of
 returns c = rw (← c.plus.ensures, ← c.jump.ensures)
 
 pub plus-requires : goal.plus-requires
-unfolding nopOf
+unfolding nop_of
 plus-requires c = tt
 
 pub jump-requires : goal.jump-requires
-unfolding nopOf
+unfolding nop_of
 jump-requires c = tt

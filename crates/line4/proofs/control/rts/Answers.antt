@@ -1,13 +1,13 @@
-use Rattle.instructions.specs.Line4.{rts as rtsOf}
+use Rattle.instructions.specs.Line4.{rts as rts_of}
 use Rattle.line4.proofs.control.rts.Goals as goal
 
 pub returns-in-Fault : goal.returns-in-Fault
-unfolding rtsOf
+unfolding rts_of
 returns-in-Fault c =
     rw (← c.address-sp.ensures, ← c.load.ensures, c.in-Fault.is, ← c.refused.ensures)
 
 pub returns : goal.returns
-unfolding rtsOf
+unfolding rts_of
 returns c =
     rw (← c.address-sp.ensures, ← c.load.ensures, c.in-Value.is, ← c.kept_codes-codes.ensures, ← c.plus.ensures, ← c.write_address-popped.ensures, ← c.no_write.ensures, ← c.done.ensures)
 

@@ -1,13 +1,13 @@
-use Rattle.instructions.specs.Line4.{unlk as unlkOf}
+use Rattle.instructions.specs.Line4.{unlk as unlk_of}
 use Rattle.line4.proofs.control.unlk.Goals as goal
 
 pub returns-in-Fault : goal.returns-in-Fault
-unfolding unlkOf
+unfolding unlk_of
 returns-in-Fault c =
     rw (← c.address-a.ensures, ← c.load.ensures, c.in-Fault.is, ← c.refused.ensures)
 
 pub returns : goal.returns
-unfolding unlkOf
+unfolding unlk_of
 returns c =
     rw (← c.address-a.ensures, ← c.load.ensures, c.in-Value.is, ← c.plus-next.ensures, ← c.kept_codes-codes.ensures, ← c.plus.ensures, ← c.write_address-top.ensures, ← c.write_address.ensures, ← c.done.ensures)
 

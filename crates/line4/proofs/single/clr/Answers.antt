@@ -1,8 +1,8 @@
-use Rattle.instructions.specs.Line4.{clr as clrOf}
+use Rattle.instructions.specs.Line4.{clr as clr_of}
 use Rattle.line4.proofs.single.clr.Goals as goal
 
 pub returns : goal.returns
-unfolding clrOf
+unfolding clr_of
 returns c =
     rw (← c.size_of-z.ensures, ← c.plus.ensures, ← c.destination-to.ensures, ← c.move_codes.ensures, ← c.put_to.ensures)
 

@@ -1,8 +1,8 @@
-use Rattle.instructions.specs.Line4.{ext_w as extWOf}
+use Rattle.instructions.specs.Line4.{ext_w as ext_w_of}
 use Rattle.line4.proofs.single.ext_w.Goals as goal
 
 pub returns : goal.returns
-unfolding extWOf
+unfolding ext_w_of
 returns c =
     rw (← c.data-old.ensures, ← c.sign_extended.ensures, ← c.cut-v.ensures, ← c.plus-next.ensures, ← c.move_codes-codes.ensures, ← c.no_write-none.ensures, ← c.merged.ensures, ← c.write_data.ensures, ← c.done.ensures)
 

@@ -1,8 +1,8 @@
-use Rattle.instructions.specs.Line4.{negx as negxOf}
+use Rattle.instructions.specs.Line4.{negx as negx_of}
 use Rattle.line4.proofs.single.negx.Goals as goal
 
 pub returns : goal.returns
-unfolding negxOf
+unfolding negx_of
 returns c =
     rw (← c.data.ensures, ← c.subtracted-r.ensures, ← c.plus-next.ensures, ← c.extended_codes-codes.ensures, ← c.no_write-none.ensures, ← c.write_data.ensures, ← c.done.ensures)
 

@@ -1,13 +1,13 @@
-use Rattle.instructions.specs.Line4.{tst as tstOf}
+use Rattle.instructions.specs.Line4.{tst as tst_of}
 use Rattle.line4.proofs.single.tst.Goals as goal
 
 pub returns-in-Fault : goal.returns-in-Fault
-unfolding tstOf
+unfolding tst_of
 returns-in-Fault c =
     rw (← c.size_of-z.ensures, ← c.plus.ensures, ← c.source-from.ensures, c.in-Fault.is, ← c.refused.ensures)
 
 pub returns : goal.returns
-unfolding tstOf
+unfolding tst_of
 returns c =
     rw (← c.size_of-z.ensures, ← c.plus.ensures, ← c.source-from.ensures, c.in-Value.is, ← c.move_codes-codes.ensures, ← c.no_write.ensures, ← c.done.ensures)
 

@@ -1,8 +1,8 @@
-use Rattle.instructions.specs.Line4.{move_from_ccr as moveFromCcrOf}
+use Rattle.instructions.specs.Line4.{move_from_ccr as move_from_ccr_of}
 use Rattle.line4.proofs.status.move_from_ccr.Goals as goal
 
 pub returns : goal.returns
-unfolding moveFromCcrOf
+unfolding move_from_ccr_of
 returns c =
     rw (← c.plus-next.ensures, ← c.kept_codes-codes.ensures, ← c.no_write-none.ensures, ← c.data.ensures, ← c.merged-low.ensures, ← c.write_data.ensures, ← c.done.ensures)
 

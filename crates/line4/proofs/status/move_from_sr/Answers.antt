@@ -1,14 +1,14 @@
 use borrow.Author.Tests.{eq-eqb, ne_eqb}
-use Rattle.instructions.specs.Line4.{move_from_sr as moveFromSrOf}
+use Rattle.instructions.specs.Line4.{move_from_sr as move_from_sr_of}
 use Rattle.line4.proofs.status.move_from_sr.Goals as goal
 
 pub returns-then-op-eq0 : goal.returns-then-op-eq0
-unfolding moveFromSrOf
+unfolding move_from_sr_of
 returns-then-op-eq0 c =
     rw (eq-eqb _ _ c.if-op-eq0.true, ← c.plus-next.ensures, ← c.kept_codes-codes.ensures, ← c.no_write-none.ensures, ← c.data.ensures, ← c.merged-low.ensures, ← c.write_data.ensures, ← c.done.ensures, ← c.privileged.ensures)
 
 pub returns-else-op-eq0 : goal.returns-else-op-eq0
-unfolding moveFromSrOf
+unfolding move_from_sr_of
 returns-else-op-eq0 c = rw (ne_eqb _ _ c.if-op-eq0.false, ← c.illegal.ensures, ← c.privileged-else-op-eq0.ensures)
 
 pub plus-next-requires : goal.plus-next-requires

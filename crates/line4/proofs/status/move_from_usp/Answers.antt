@@ -1,8 +1,8 @@
-use Rattle.instructions.specs.Line4.{move_from_usp as moveFromUspOf}
+use Rattle.instructions.specs.Line4.{move_from_usp as move_from_usp_of}
 use Rattle.line4.proofs.status.move_from_usp.Goals as goal
 
 pub returns : goal.returns
-unfolding moveFromUspOf
+unfolding move_from_usp_of
 returns c =
     rw (← c.plus-next.ensures, ← c.kept_codes-codes.ensures, ← c.no_write-none.ensures, ← c.write_address.ensures, ← c.done.ensures, ← c.privileged.ensures)
 

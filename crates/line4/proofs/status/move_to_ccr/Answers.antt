@@ -1,14 +1,14 @@
 use Rattle.manual.specs.Flags.{kept_codes}
-use Rattle.instructions.specs.Line4.{move_to_ccr as moveToCcrOf}
+use Rattle.instructions.specs.Line4.{move_to_ccr as move_to_ccr_of}
 use Rattle.line4.proofs.status.move_to_ccr.Goals as goal
 
 pub returns-in-Fault : goal.returns-in-Fault
-unfolding moveToCcrOf
+unfolding move_to_ccr_of
 returns-in-Fault c =
     rw (← c.plus.ensures, ← c.source-from.ensures, c.in-Fault.is, ← c.refused.ensures)
 
 pub returns : goal.returns
-unfolding moveToCcrOf kept_codes
+unfolding move_to_ccr_of kept_codes
 returns c =
     rw (← c.plus.ensures, ← c.source-from.ensures, c.in-Value.is, ← c.no_write.ensures, ← c.done.ensures)
 

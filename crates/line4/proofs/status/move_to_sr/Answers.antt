@@ -1,19 +1,19 @@
 use borrow.Author.Tests.{eq-eqb, ne_eqb}
-use Rattle.instructions.specs.Line4.{move_to_sr as moveToSrOf}
+use Rattle.instructions.specs.Line4.{move_to_sr as move_to_sr_of}
 use Rattle.line4.proofs.status.move_to_sr.Goals as goal
 
 pub returns-in-Fault : goal.returns-in-Fault
-unfolding moveToSrOf
+unfolding move_to_sr_of
 returns-in-Fault c =
     rw (← c.plus.ensures, ← c.source-from.ensures, c.in-Fault.is, ← c.refused.ensures)
 
 pub returns-then-sr-eq1 : goal.returns-then-sr-eq1
-unfolding moveToSrOf
+unfolding move_to_sr_of
 returns-then-sr-eq1 c =
     rw (← c.plus.ensures, ← c.source-from.ensures, c.in-Value.is, eq-eqb _ _ c.if-sr-eq1.true, ← c.acting.ensures)
 
 pub returns-else-sr-eq1 : goal.returns-else-sr-eq1
-unfolding moveToSrOf
+unfolding move_to_sr_of
 returns-else-sr-eq1 c =
     rw (← c.plus.ensures, ← c.source-from.ensures, c.in-Value.is, ne_eqb _ _ c.if-sr-eq1.false, ← c.enter_after.ensures)
 

@@ -1,8 +1,8 @@
-use Rattle.instructions.specs.Line4.{move_to_usp as moveToUspOf}
+use Rattle.instructions.specs.Line4.{move_to_usp as move_to_usp_of}
 use Rattle.line4.proofs.status.move_to_usp.Goals as goal
 
 pub returns : goal.returns
-unfolding moveToUspOf
+unfolding move_to_usp_of
 returns c =
     rw (← c.plus-next.ensures, ← c.address-a.ensures, ← c.no_write.ensures, ← c.acting.ensures, ← c.privileged.ensures)
 

@@ -1,18 +1,18 @@
-use Rattle.instructions.specs.Line4.{movec as movecOf}
+use Rattle.instructions.specs.Line4.{movec as movec_of}
 use Rattle.line4.proofs.status.movec.Goals as goal
 
 pub returns-in-Fault : goal.returns-in-Fault
-unfolding movecOf
+unfolding movec_of
 returns-in-Fault c =
     rw (← c.plus-pc.ensures, ← c.load.ensures, c.in-Fault.is, ← c.refused.ensures)
 
 pub returns-in_default : goal.returns-in_default
-unfolding movecOf
+unfolding movec_of
 returns-in_default c =
     rw (← c.plus-pc.ensures, ← c.load.ensures, c.in-Value.is, ← c.control_register.ensures, c.in_default.is, ← c.illegal.ensures, ← c.privileged.ensures)
 
 pub returns : goal.returns
-unfolding movecOf
+unfolding movec_of
 returns c =
     rw (← c.plus-pc.ensures, ← c.load.ensures, c.in-Value.is, ← c.control_register.ensures, c.in-Control.is, ← c.plus-next.ensures, ← c.no_write.ensures, ← c.acting.ensures, ← c.privileged-2.ensures)
 

@@ -1,8 +1,8 @@
-use Rattle.instructions.specs.Line4.{rte as rteOf}
+use Rattle.instructions.specs.Line4.{rte as rte_of}
 use Rattle.line4.proofs.status.rte.Goals as goal
 
 pub returns : goal.returns
-unfolding rteOf
+unfolding rte_of
 returns c = rw (← c.plus-next.ensures, ← c.no_write.ensures, ← c.acting.ensures, ← c.privileged.ensures)
 
 pub plus-next-requires : goal.plus-next-requires

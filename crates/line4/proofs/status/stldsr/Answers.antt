@@ -1,24 +1,24 @@
 use borrow.Author.Tests.{eq-eqb, ne_eqb}
-use Rattle.instructions.specs.Line4.{stldsr as stldsrOf}
+use Rattle.instructions.specs.Line4.{stldsr as stldsr_of}
 use Rattle.line4.proofs.status.stldsr.Goals as goal
 
 pub returns-in-Fault : goal.returns-in-Fault
-unfolding stldsrOf
+unfolding stldsr_of
 returns-in-Fault c =
     rw (← c.plus-pc.ensures, ← c.load.ensures, c.in-Fault.is, ← c.refused.ensures)
 
 pub returns-then-w-ne18172 : goal.returns-then-w-ne18172
-unfolding stldsrOf
+unfolding stldsr_of
 returns-then-w-ne18172 c =
     rw (← c.plus-pc.ensures, ← c.load.ensures, c.in-Value.is, ne_eqb _ _ c.if-w-ne18172.true, ← c.illegal.ensures)
 
 pub returns-in-Fault-load : goal.returns-in-Fault-load
-unfolding stldsrOf
+unfolding stldsr_of
 returns-in-Fault-load c =
     rw (← c.plus-pc.ensures, ← c.load.ensures, c.in-Value.is, eq-eqb _ _ c.if-w-ne18172.false, ← c.plus.ensures, ← c.load-2.ensures, c.in-Fault-load.is, ← c.refused-in-Fault-load.ensures)
 
 pub returns : goal.returns
-unfolding stldsrOf
+unfolding stldsr_of
 returns c =
     rw (← c.plus-pc.ensures, ← c.load.ensures, c.in-Value.is, eq-eqb _ _ c.if-w-ne18172.false, ← c.plus.ensures, ← c.load-2.ensures, c.in-Value-load.is, ← c.plus-next.ensures, ← c.no_write.ensures, ← c.acting.ensures, ← c.privileged.ensures)
 

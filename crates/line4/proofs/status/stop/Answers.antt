@@ -1,13 +1,13 @@
-use Rattle.instructions.specs.Line4.{stop as stopOf}
+use Rattle.instructions.specs.Line4.{stop as stop_of}
 use Rattle.line4.proofs.status.stop.Goals as goal
 
 pub returns-in-Fault : goal.returns-in-Fault
-unfolding stopOf
+unfolding stop_of
 returns-in-Fault c =
     rw (← c.plus-pc.ensures, ← c.load.ensures, c.in-Fault.is, ← c.refused.ensures)
 
 pub returns : goal.returns
-unfolding stopOf
+unfolding stop_of
 returns c =
     rw (← c.plus-pc.ensures, ← c.load.ensures, c.in-Value.is, ← c.plus-next.ensures, ← c.no_write.ensures, ← c.acting.ensures, ← c.privileged.ensures)
 

@@ -1,14 +1,14 @@
 use borrow.Author.Tests.{eq-eqb, ne_eqb}
-use Rattle.instructions.specs.LineA.{move_from_acc as moveFromAccOf}
+use Rattle.instructions.specs.LineA.{move_from_acc as move_from_acc_of}
 use Rattle.linea.proofs.linea.move_from_acc.Goals as goal
 
 pub returns-then-op-eq1 : goal.returns-then-op-eq1
-unfolding moveFromAccOf
+unfolding move_from_acc_of
 returns-then-op-eq1 c =
     rw (← c.mode_of-k.ensures, ← c.acc_of.ensures, ← c.mac_read-v.ensures, ← c.plus-next.ensures, ← c.write_general-to.ensures, eq-eqb _ _ c.if-op-eq1.true, ← c.acting.ensures)
 
 pub returns-else-op-eq1 : goal.returns-else-op-eq1
-unfolding moveFromAccOf
+unfolding move_from_acc_of
 returns-else-op-eq1 c =
     rw (← c.mode_of-k.ensures, ← c.acc_of.ensures, ← c.mac_read-v.ensures, ← c.plus-next.ensures, ← c.write_general-to.ensures, ne_eqb _ _ c.if-op-eq1.false, ← c.acting-else-op-eq1.ensures)
 

@@ -1,19 +1,19 @@
 use borrow.Author.Tests.{eq-eqb, ne_eqb}
-use Rattle.instructions.specs.LineA.{mac as macOf}
+use Rattle.instructions.specs.LineA.{mac as mac_of}
 use Rattle.linea.proofs.mac.mac.Goals as goal
 
 pub returns-in-Fault : goal.returns-in-Fault
-unfolding macOf
+unfolding mac_of
 returns-in-Fault c =
     rw (← c.plus.ensures, ← c.load.ensures, c.in-Fault.is, ← c.refused.ensures)
 
 pub returns-then-op-eq0 : goal.returns-then-op-eq0
-unfolding macOf
+unfolding mac_of
 returns-then-op-eq0 c =
     rw (← c.plus.ensures, ← c.load.ensures, c.in-Value.is, eq-eqb _ _ c.if-op-eq0.true, ← c.mac_registers.ensures)
 
 pub returns-else-op-eq0 : goal.returns-else-op-eq0
-unfolding macOf
+unfolding mac_of
 returns-else-op-eq0 c =
     rw (← c.plus.ensures, ← c.load.ensures, c.in-Value.is, ne_eqb _ _ c.if-op-eq0.false, ← c.mac_with_load.ensures)
 

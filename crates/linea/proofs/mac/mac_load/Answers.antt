@@ -1,13 +1,13 @@
-use Rattle.instructions.specs.LineA.{mac_load as macLoadOf}
+use Rattle.instructions.specs.LineA.{mac_load as mac_load_of}
 use Rattle.linea.proofs.mac.mac_load.Goals as goal
 
 pub returns-in-Fault : goal.returns-in-Fault
-unfolding macLoadOf
+unfolding mac_load_of
 returns-in-Fault c =
     rw (← c.load_address-a.ensures, ← c.load.ensures, c.in-Fault.is, ← c.refused.ensures)
 
 pub returns : goal.returns
-unfolding macLoadOf
+unfolding mac_load_of
 returns c =
     rw (← c.load_address-a.ensures, ← c.load.ensures, c.in-Value.is, ← c.kept_codes-codes.ensures, ← c.write_general-loaded.ensures, ← c.load_moves-stepped.ensures, ← c.general-rx.ensures, ← c.general-ry.ensures, ← c.accumulating-summed.ensures)
 

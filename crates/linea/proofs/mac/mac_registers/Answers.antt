@@ -1,8 +1,8 @@
-use Rattle.instructions.specs.LineA.{mac_registers as macRegistersOf}
+use Rattle.instructions.specs.LineA.{mac_registers as mac_registers_of}
 use Rattle.linea.proofs.mac.mac_registers.Goals as goal
 
 pub returns : goal.returns
-unfolding macRegistersOf
+unfolding mac_registers_of
 returns c =
     rw (← c.plus-next.ensures, ← c.no_write-none.ensures, ← c.general-rx.ensures, ← c.general-ry.ensures, ← c.accumulating.ensures, ← c.acting.ensures)
 

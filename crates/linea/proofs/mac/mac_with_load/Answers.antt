@@ -1,28 +1,28 @@
 use borrow.Author.Tests.{lt-ltb, le-ltb, eq-eqb, ne_eqb}
-use Rattle.instructions.specs.LineA.{mac_with_load as macWithLoadOf}
+use Rattle.instructions.specs.LineA.{mac_with_load as mac_with_load_of}
 use Rattle.linea.proofs.mac.mac_with_load.Goals as goal
 
 pub returns-then-mode-gt5 : goal.returns-then-mode-gt5
-unfolding macWithLoadOf
+unfolding mac_with_load_of
 returns-then-mode-gt5 c = rw (← c.address-a.ensures, lt-ltb _ _ c.if-mode-gt5.true, ← c.enter.ensures)
 
 pub returns-in-Fault : goal.returns-in-Fault
-unfolding macWithLoadOf
+unfolding mac_with_load_of
 returns-in-Fault c =
     rw (← c.address-a.ensures, le-ltb _ _ c.if-mode-gt5.false, eq-eqb _ _ c.if-mode-eq5.true, ← c.plus.ensures, ← c.load.ensures, c.in-Fault.is, ← c.refused.ensures)
 
 pub returns-then-mode-eq5 : goal.returns-then-mode-eq5
-unfolding macWithLoadOf
+unfolding mac_with_load_of
 returns-then-mode-eq5 c =
     rw (← c.address-a.ensures, le-ltb _ _ c.if-mode-gt5.false, eq-eqb _ _ c.if-mode-eq5.true, ← c.plus.ensures, ← c.load.ensures, c.in-Value.is, ← c.sign_extended.ensures, ← c.plus-base.ensures, ← c.plus-then-mode-eq5.ensures, ← c.mac_load.ensures)
 
 pub returns-then-mode-eq4 : goal.returns-then-mode-eq4
-unfolding macWithLoadOf
+unfolding mac_with_load_of
 returns-then-mode-eq4 c =
     rw (← c.address-a.ensures, le-ltb _ _ c.if-mode-gt5.false, ne_eqb _ _ c.if-mode-eq5.false, ← c.plus-next.ensures, eq-eqb _ _ c.if-mode-eq4.true, ← c.minus.ensures, ← c.mac_load-then-mode-eq4.ensures)
 
 pub returns-else-mode-eq4 : goal.returns-else-mode-eq4
-unfolding macWithLoadOf
+unfolding mac_with_load_of
 returns-else-mode-eq4 c =
     rw (← c.address-a.ensures, le-ltb _ _ c.if-mode-gt5.false, ne_eqb _ _ c.if-mode-eq5.false, ← c.plus-next.ensures, ne_eqb _ _ c.if-mode-eq4.false, ← c.mac_load-else-mode-eq4.ensures)
 

@@ -1,8 +1,8 @@
-use Rattle.instructions.specs.LineA.{mov3q as mov3qOf}
+use Rattle.instructions.specs.LineA.{mov3q as mov3q_of}
 use Rattle.linea.proofs.moves.mov3q.Goals as goal
 
 pub returns : goal.returns
-unfolding mov3qOf
+unfolding mov3q_of
 returns c =
     rw (← c.three_bits-v.ensures, ← c.plus.ensures, ← c.destination-to.ensures, ← c.move_codes.ensures, ← c.put_to.ensures)
 

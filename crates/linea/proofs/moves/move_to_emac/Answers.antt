@@ -1,13 +1,13 @@
-use Rattle.instructions.specs.LineA.{move_to_emac as moveToEmacOf}
+use Rattle.instructions.specs.LineA.{move_to_emac as move_to_emac_of}
 use Rattle.linea.proofs.moves.move_to_emac.Goals as goal
 
 pub returns-in-Fault : goal.returns-in-Fault
-unfolding moveToEmacOf
+unfolding move_to_emac_of
 returns-in-Fault c =
     rw (← c.plus.ensures, ← c.source-from.ensures, c.in-Fault.is, ← c.refused.ensures)
 
 pub returns : goal.returns
-unfolding moveToEmacOf
+unfolding move_to_emac_of
 returns c =
     rw (← c.plus.ensures, ← c.source-from.ensures, c.in-Value.is, ← c.setting.ensures, ← c.acting.ensures)
 

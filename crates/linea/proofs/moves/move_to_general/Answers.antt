@@ -1,8 +1,8 @@
-use Rattle.instructions.specs.LineA.{move_to_general as moveToGeneralOf}
+use Rattle.instructions.specs.LineA.{move_to_general as move_to_general_of}
 use Rattle.linea.proofs.moves.move_to_general.Goals as goal
 
 pub returns : goal.returns
-unfolding moveToGeneralOf
+unfolding move_to_general_of
 returns c =
     rw (← c.plus-next.ensures, ← c.kept_codes-kept.ensures, ← c.no_write-none.ensures, ← c.write_general.ensures, ← c.done.ensures)
 

@@ -1,13 +1,13 @@
-use Rattle.instructions.specs.LineA.{unassigned as unassignedOf}
+use Rattle.instructions.specs.LineA.{unassigned as unassigned_of}
 use Rattle.linea.proofs.moves.unassigned.Goals as goal
 
 pub returns-in-Value : goal.returns-in-Value
-unfolding unassignedOf
+unfolding unassigned_of
 returns-in-Value c =
     rw (← c.plus.ensures, ← c.source-from.ensures, c.in-Value.is, ← c.enter_after.ensures)
 
 pub returns-in-Fault : goal.returns-in-Fault
-unfolding unassignedOf
+unfolding unassigned_of
 returns-in-Fault c =
     rw (← c.plus.ensures, ← c.source-from.ensures, c.in-Fault.is, ← c.refused.ensures)
 

@@ -2,7 +2,7 @@ use Prim.Native.Nat.{ℕ, ◌%◌}
 use mathlib.Core.Path.{◌≡◌}
 use native.Mathlib.Omega.{arith}
 use borrow.Author.Tests.{eq-eqb, ne_eqb}
-use Rattle.instructions.specs.Line0.{bit_of_byte as bitOfByteOf}
+use Rattle.instructions.specs.Line0.{bit_of_byte as bit_of_byte_of}
 use Rattle.lines0to3.proofs.line0.bit_of_byte.Goals as goal
 
 -- a bit of a byte is one of a long
@@ -10,16 +10,16 @@ narrow : (n : ℕ) → n % 8 % 32 ≡ n % 8
 narrow n = omega arith
 
 pub returns-in-Fault : goal.returns-in-Fault
-unfolding bitOfByteOf
+unfolding bit_of_byte_of
 returns-in-Fault c =
     rw (← c.destination-to.ensures, ← c.fetch.ensures, c.in-Fault.is, ← c.refused.ensures)
 
 pub returns-then-op-eq0 : goal.returns-then-op-eq0
-unfolding bitOfByteOf
+unfolding bit_of_byte_of
 returns-then-op-eq0 c =
     rw (← narrow c.args.n, ← c.destination-to.ensures, ← c.fetch.ensures, c.in-Value.is, ← c.bit_of-was.ensures, ← c.test_codes-codes.ensures, eq-eqb _ _ c.if-op-eq0.true, ← c.no_write.ensures, ← c.done.ensures)
 
 pub returns-else-op-eq0 : goal.returns-else-op-eq0
-unfolding bitOfByteOf
+unfolding bit_of_byte_of
 returns-else-op-eq0 c =
     rw (← narrow c.args.n, ← c.destination-to.ensures, ← c.fetch.ensures, c.in-Value.is, ← c.bit_of-was.ensures, ← c.test_codes-codes.ensures, ne_eqb _ _ c.if-op-eq0.false, ← c.changed_bit-changed.ensures, ← c.put_to.ensures)

@@ -1,12 +1,12 @@
-use Rattle.instructions.specs.Line0.{logic_immediate as logicImmediateOf}
+use Rattle.instructions.specs.Line0.{logic_immediate as logic_immediate_of}
 use Rattle.lines0to3.proofs.line0.logic_immediate.Goals as goal
 
 pub returns-in-Fault : goal.returns-in-Fault
-unfolding logicImmediateOf
+unfolding logic_immediate_of
 returns-in-Fault c =
     rw (← c.plus-pc.ensures, ← c.load.ensures, c.in-Fault.is, ← c.refused.ensures)
 
 pub returns : goal.returns
-unfolding logicImmediateOf
+unfolding logic_immediate_of
 returns c =
     rw (← c.plus-pc.ensures, ← c.load.ensures, c.in-Value.is, ← c.data.ensures, ← c.logic-r.ensures, ← c.plus-next.ensures, ← c.move_codes-codes.ensures, ← c.no_write-none.ensures, ← c.write_data.ensures, ← c.done.ensures)

@@ -1,8 +1,8 @@
-use Rattle.instructions.specs.Line5.{addq_address as addqAddressOf}
+use Rattle.instructions.specs.Line5.{addq_address as addq_address_of}
 use Rattle.lines5to9.proofs.line5.addq_address.Goals as goal
 
 pub returns : goal.returns
-unfolding addqAddressOf
+unfolding addq_address_of
 returns c =
     rw (← c.plus-next.ensures, ← c.kept_codes-codes.ensures, ← c.no_write-none.ensures, ← c.address.ensures, ← c.quick_number.ensures, ← c.more_or_less-r.ensures, ← c.write_address.ensures, ← c.done.ensures)
 

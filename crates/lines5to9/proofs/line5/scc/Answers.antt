@@ -1,13 +1,13 @@
-use Rattle.instructions.specs.Line5.{scc as sccOf}
+use Rattle.instructions.specs.Line5.{scc as scc_of}
 use Rattle.lines5to9.proofs.line5.scc.Goals as goal
 
 pub returns-then-condition : goal.returns-then-condition
-unfolding sccOf
+unfolding scc_of
 returns-then-condition c =
     rw (← c.plus-next.ensures, ← c.kept_codes-codes.ensures, ← c.no_write-none.ensures, ← c.data-old.ensures, ← c.condition.ensures, c.if-condition.true, ← c.merged.ensures, ← c.write_data.ensures, ← c.done.ensures)
 
 pub returns-else-condition : goal.returns-else-condition
-unfolding sccOf
+unfolding scc_of
 returns-else-condition c =
     rw (← c.plus-next.ensures, ← c.kept_codes-codes.ensures, ← c.no_write-none.ensures, ← c.data-old.ensures, ← c.condition.ensures, c.if-condition.false, ← c.merged-else-condition.ensures, ← c.write_data-else-condition.ensures, ← c.done-else-condition.ensures)
 

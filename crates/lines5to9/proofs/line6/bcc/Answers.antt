@@ -1,18 +1,18 @@
-use Rattle.instructions.specs.Line6.{bcc as bccOf}
+use Rattle.instructions.specs.Line6.{bcc as bcc_of}
 use Rattle.lines5to9.proofs.line6.bcc.Goals as goal
 
 pub returns-in-Fault : goal.returns-in-Fault
-unfolding bccOf
+unfolding bcc_of
 returns-in-Fault c =
     rw (← c.plus-pc.ensures, ← c.displacement.ensures, c.in-Fault.is, ← c.refused.ensures)
 
 pub returns-then-condition : goal.returns-then-condition
-unfolding bccOf
+unfolding bcc_of
 returns-then-condition c =
     rw (← c.plus-pc.ensures, ← c.displacement.ensures, c.in-Value.is, ← c.condition.ensures, c.if-condition.true, ← c.plus.ensures, ← c.jump.ensures)
 
 pub returns-else-condition : goal.returns-else-condition
-unfolding bccOf
+unfolding bcc_of
 returns-else-condition c =
     rw (← c.plus-pc.ensures, ← c.displacement.ensures, c.in-Value.is, ← c.condition.ensures, c.if-condition.false, ← c.displacement_bytes.ensures, ← c.plus-else-condition.ensures, ← c.jump-else-condition.ensures)
 

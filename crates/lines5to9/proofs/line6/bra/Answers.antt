@@ -1,13 +1,13 @@
-use Rattle.instructions.specs.Line6.{bra as braOf}
+use Rattle.instructions.specs.Line6.{bra as bra_of}
 use Rattle.lines5to9.proofs.line6.bra.Goals as goal
 
 pub returns-in-Fault : goal.returns-in-Fault
-unfolding braOf
+unfolding bra_of
 returns-in-Fault c =
     rw (← c.plus-pc.ensures, ← c.displacement.ensures, c.in-Fault.is, ← c.refused.ensures)
 
 pub returns : goal.returns
-unfolding braOf
+unfolding bra_of
 returns c =
     rw (← c.plus-pc.ensures, ← c.displacement.ensures, c.in-Value.is, ← c.plus.ensures, ← c.jump.ensures)
 

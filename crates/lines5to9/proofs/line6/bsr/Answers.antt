@@ -1,13 +1,13 @@
-use Rattle.instructions.specs.Line6.{bsr as bsrOf}
+use Rattle.instructions.specs.Line6.{bsr as bsr_of}
 use Rattle.lines5to9.proofs.line6.bsr.Goals as goal
 
 pub returns-in-Fault : goal.returns-in-Fault
-unfolding bsrOf
+unfolding bsr_of
 returns-in-Fault c =
     rw (← c.plus-pc.ensures, ← c.displacement.ensures, c.in-Fault.is, ← c.refused.ensures)
 
 pub returns : goal.returns
-unfolding bsrOf
+unfolding bsr_of
 returns c =
     rw (← c.plus-pc.ensures, ← c.displacement.ensures, c.in-Value.is, ← c.plus-target.ensures, ← c.displacement_bytes.ensures, ← c.plus.ensures, ← c.push.ensures)
 

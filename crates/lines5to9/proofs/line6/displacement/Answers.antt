@@ -1,23 +1,23 @@
 use borrow.Author.Tests.{eq-eqb, ne_eqb}
-use Rattle.instructions.specs.Line6.{displacement as displacementOf}
+use Rattle.instructions.specs.Line6.{displacement as displacement_of}
 use Rattle.lines5to9.proofs.line6.displacement.Goals as goal
 
 pub returns-in-Value : goal.returns-in-Value
-unfolding displacementOf
+unfolding displacement_of
 returns-in-Value c =
     rw (eq-eqb _ _ c.if-low-eq0.true, ← c.load.ensures, c.in-Value.is, ← c.sign_extended.ensures)
 
 pub returns-in-Fault : goal.returns-in-Fault
-unfolding displacementOf
+unfolding displacement_of
 returns-in-Fault c =
     rw (eq-eqb _ _ c.if-low-eq0.true, ← c.load.ensures, c.in-Fault.is)
 
 pub returns-then-low-eq255 : goal.returns-then-low-eq255
-unfolding displacementOf
+unfolding displacement_of
 returns-then-low-eq255 c = rw (ne_eqb _ _ c.if-low-eq0.false, eq-eqb _ _ c.if-low-eq255.true, ← c.load-then-low-eq255.ensures)
 
 pub returns-else-low-eq255 : goal.returns-else-low-eq255
-unfolding displacementOf
+unfolding displacement_of
 returns-else-low-eq255 c = rw (ne_eqb _ _ c.if-low-eq0.false, ne_eqb _ _ c.if-low-eq255.false, ← c.sign_extended-else-low-eq255.ensures)
 
 pub load-requires : goal.load-requires

@@ -1,8 +1,8 @@
-use Rattle.instructions.specs.Line7.{moveq as moveqOf}
+use Rattle.instructions.specs.Line7.{moveq as moveq_of}
 use Rattle.lines5to9.proofs.line7.moveq.Goals as goal
 
 pub returns : goal.returns
-unfolding moveqOf
+unfolding moveq_of
 returns c =
     rw (← c.sign_extended-v.ensures, ← c.plus-next.ensures, ← c.move_codes-codes.ensures, ← c.no_write.ensures, ← c.write_data.ensures, ← c.done.ensures)
 

@@ -1,13 +1,13 @@
-use Rattle.instructions.specs.Line7.{mvz as mvzOf}
+use Rattle.instructions.specs.Line7.{mvz as mvz_of}
 use Rattle.lines5to9.proofs.line7.mvz.Goals as goal
 
 pub returns-in-Fault : goal.returns-in-Fault
-unfolding mvzOf
+unfolding mvz_of
 returns-in-Fault c =
     rw (← c.plus.ensures, ← c.byte_or_word.ensures, ← c.source-from.ensures, c.in-Fault.is, ← c.refused.ensures)
 
 pub returns : goal.returns
-unfolding mvzOf
+unfolding mvz_of
 returns c =
     rw (← c.plus.ensures, ← c.byte_or_word.ensures, ← c.source-from.ensures, c.in-Value.is, ← c.move_codes-codes.ensures, ← c.write_data.ensures, ← c.done.ensures)
 

@@ -1,13 +1,13 @@
-use Rattle.instructions.specs.Line9D.{add_to_data as addToDataOf}
+use Rattle.instructions.specs.Line9D.{add_to_data as add_to_data_of}
 use Rattle.lines5to9.proofs.sums.add_to_data.Goals as goal
 
 pub returns-in-Fault : goal.returns-in-Fault
-unfolding addToDataOf
+unfolding add_to_data_of
 returns-in-Fault c =
     rw (← c.size_of-z.ensures, ← c.plus.ensures, ← c.source-from.ensures, c.in-Fault.is, ← c.refused.ensures)
 
 pub returns : goal.returns
-unfolding addToDataOf
+unfolding add_to_data_of
 returns c =
     rw (← c.size_of-z.ensures, ← c.plus.ensures, ← c.source-from.ensures, c.in-Value.is, ← c.data-old.ensures, ← c.sum_or_difference-r.ensures, ← c.sum_codes-codes.ensures, ← c.merged.ensures, ← c.write_data.ensures, ← c.done.ensures)
 

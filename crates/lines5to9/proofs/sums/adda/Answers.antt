@@ -1,13 +1,13 @@
-use Rattle.instructions.specs.Line9D.{adda as addaOf}
+use Rattle.instructions.specs.Line9D.{adda as adda_of}
 use Rattle.lines5to9.proofs.sums.adda.Goals as goal
 
 pub returns-in-Fault : goal.returns-in-Fault
-unfolding addaOf
+unfolding adda_of
 returns-in-Fault c =
     rw (← c.plus.ensures, ← c.source-from.ensures, c.in-Fault.is, ← c.refused.ensures)
 
 pub returns : goal.returns
-unfolding addaOf
+unfolding adda_of
 returns c =
     rw (← c.plus.ensures, ← c.source-from.ensures, c.in-Value.is, ← c.address_after-old.ensures, ← c.sign_extended.ensures, ← c.more_or_less-r.ensures, ← c.kept_codes-codes.ensures, ← c.write_address.ensures, ← c.done.ensures)
 

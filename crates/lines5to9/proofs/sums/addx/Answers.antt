@@ -1,8 +1,8 @@
-use Rattle.instructions.specs.Line9D.{addx as addxOf}
+use Rattle.instructions.specs.Line9D.{addx as addx_of}
 use Rattle.lines5to9.proofs.sums.addx.Goals as goal
 
 pub returns : goal.returns
-unfolding addxOf
+unfolding addx_of
 returns c =
     rw (← c.size_of-z.ensures, ← c.data-old.ensures, ← c.data.ensures, ← c.sum_or_difference-r.ensures, ← c.plus-next.ensures, ← c.extended_codes-codes.ensures, ← c.no_write-none.ensures, ← c.merged.ensures, ← c.write_data.ensures, ← c.done.ensures)
 

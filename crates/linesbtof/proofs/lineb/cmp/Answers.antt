@@ -1,13 +1,13 @@
-use Rattle.instructions.specs.LineB.{cmp as cmpOf}
+use Rattle.instructions.specs.LineB.{cmp as cmp_of}
 use Rattle.linesbtof.proofs.lineb.cmp.Goals as goal
 
 pub returns-in-Fault : goal.returns-in-Fault
-unfolding cmpOf
+unfolding cmp_of
 returns-in-Fault c =
     rw (← c.size_of-z.ensures, ← c.plus.ensures, ← c.source-from.ensures, c.in-Fault.is, ← c.refused.ensures)
 
 pub returns : goal.returns
-unfolding cmpOf
+unfolding cmp_of
 returns c =
     rw (← c.size_of-z.ensures, ← c.plus.ensures, ← c.source-from.ensures, c.in-Value.is, ← c.data.ensures, ← c.subtracted-r.ensures, ← c.compare_codes-codes.ensures, ← c.no_write.ensures, ← c.done.ensures)
 

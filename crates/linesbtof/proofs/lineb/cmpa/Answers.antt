@@ -1,13 +1,13 @@
-use Rattle.instructions.specs.LineB.{cmpa as cmpaOf}
+use Rattle.instructions.specs.LineB.{cmpa as cmpa_of}
 use Rattle.linesbtof.proofs.lineb.cmpa.Goals as goal
 
 pub returns-in-Fault : goal.returns-in-Fault
-unfolding cmpaOf
+unfolding cmpa_of
 returns-in-Fault c =
     rw (← c.plus.ensures, ← c.source-from.ensures, c.in-Fault.is, ← c.refused.ensures)
 
 pub returns : goal.returns
-unfolding cmpaOf
+unfolding cmpa_of
 returns c =
     rw (← c.plus.ensures, ← c.source-from.ensures, c.in-Value.is, ← c.address_after-old.ensures, ← c.sign_extended.ensures, ← c.subtracted-r.ensures, ← c.compare_codes-codes.ensures, ← c.no_write.ensures, ← c.done.ensures)
 

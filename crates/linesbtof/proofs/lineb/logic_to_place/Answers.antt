@@ -1,13 +1,13 @@
-use Rattle.instructions.specs.LineB.{logic_to_place as logicToPlaceOf}
+use Rattle.instructions.specs.LineB.{logic_to_place as logic_to_place_of}
 use Rattle.linesbtof.proofs.lineb.logic_to_place.Goals as goal
 
 pub returns-in-Fault : goal.returns-in-Fault
-unfolding logicToPlaceOf
+unfolding logic_to_place_of
 returns-in-Fault c =
     rw (← c.size_of-z.ensures, ← c.plus.ensures, ← c.destination-to.ensures, ← c.fetch.ensures, c.in-Fault.is, ← c.refused.ensures)
 
 pub returns : goal.returns
-unfolding logicToPlaceOf
+unfolding logic_to_place_of
 returns c =
     rw (← c.size_of-z.ensures, ← c.plus.ensures, ← c.destination-to.ensures, ← c.fetch.ensures, c.in-Value.is, ← c.data.ensures, ← c.logic-r.ensures, ← c.move_codes.ensures, ← c.put_to.ensures)
 

@@ -1,13 +1,13 @@
-use Rattle.instructions.specs.LineC.{logic_to_data as logicToDataOf}
+use Rattle.instructions.specs.LineC.{logic_to_data as logic_to_data_of}
 use Rattle.linesbtof.proofs.linec.logic_to_data.Goals as goal
 
 pub returns-in-Fault : goal.returns-in-Fault
-unfolding logicToDataOf
+unfolding logic_to_data_of
 returns-in-Fault c =
     rw (← c.size_of-z.ensures, ← c.plus.ensures, ← c.source-from.ensures, c.in-Fault.is, ← c.refused.ensures)
 
 pub returns : goal.returns
-unfolding logicToDataOf
+unfolding logic_to_data_of
 returns c =
     rw (← c.size_of-z.ensures, ← c.plus.ensures, ← c.source-from.ensures, c.in-Value.is, ← c.data-old.ensures, ← c.logic-r.ensures, ← c.move_codes-codes.ensures, ← c.merged.ensures, ← c.write_data.ensures, ← c.done.ensures)
 

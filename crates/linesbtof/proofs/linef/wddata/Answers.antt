@@ -1,28 +1,28 @@
-use Rattle.instructions.specs.LineF.{wddata as wddataOf}
+use Rattle.instructions.specs.LineF.{wddata as wddata_of}
 use Rattle.linesbtof.proofs.linef.wddata.Goals as goal
 
 pub returns-in-D : goal.returns-in-D
-unfolding wddataOf
+unfolding wddata_of
 returns-in-D c =
     rw (← c.plus.ensures, ← c.size_of.ensures, ← c.destination-to.ensures, ← c.kept_codes-codes.ensures, ← c.no_write-none.ensures, c.in-D.is, ← c.done.ensures)
 
 pub returns-in-A : goal.returns-in-A
-unfolding wddataOf
+unfolding wddata_of
 returns-in-A c =
     rw (← c.plus.ensures, ← c.size_of.ensures, ← c.destination-to.ensures, ← c.kept_codes-codes.ensures, ← c.no_write-none.ensures, c.in-A.is, ← c.done-in-A.ensures)
 
 pub returns-in-M : goal.returns-in-M
-unfolding wddataOf
+unfolding wddata_of
 returns-in-M c =
     rw (← c.plus.ensures, ← c.size_of.ensures, ← c.destination-to.ensures, ← c.kept_codes-codes.ensures, ← c.no_write-none.ensures, c.in-M.is, ← c.done-in-M.ensures)
 
 pub returns-in-I : goal.returns-in-I
-unfolding wddataOf
+unfolding wddata_of
 returns-in-I c =
     rw (← c.plus.ensures, ← c.size_of.ensures, ← c.destination-to.ensures, ← c.kept_codes-codes.ensures, ← c.no_write-none.ensures, c.in-I.is, ← c.done-in-I.ensures)
 
 pub returns-in-Fault : goal.returns-in-Fault
-unfolding wddataOf
+unfolding wddata_of
 returns-in-Fault c =
     rw (← c.plus.ensures, ← c.size_of.ensures, ← c.destination-to.ensures, ← c.kept_codes-codes.ensures, ← c.no_write-none.ensures, c.in-Fault.is, ← c.refused.ensures)
 

@@ -1,18 +1,18 @@
-use Rattle.instructions.specs.LineF.{wdebug as wdebugOf}
+use Rattle.instructions.specs.LineF.{wdebug as wdebug_of}
 use Rattle.linesbtof.proofs.linef.wdebug.Goals as goal
 
 pub returns-in_default : goal.returns-in_default
-unfolding wdebugOf
+unfolding wdebug_of
 returns-in_default c =
     rw (← c.operand-target.ensures, ← c.plus-pc.ensures, ← c.control.ensures, c.in_default.is, ← c.plus.ensures, ← c.jump.ensures)
 
 pub returns-in-Value : goal.returns-in-Value
-unfolding wdebugOf
+unfolding wdebug_of
 returns-in-Value c =
     rw (← c.operand-target.ensures, ← c.plus-pc.ensures, ← c.control.ensures, c.in-At.is, c.in-Value.is, ← c.extension.ensures, ← c.plus-in-Value.ensures, ← c.plus-in-Value-2.ensures, ← c.jump-in-Value.ensures)
 
 pub returns-in-Fault : goal.returns-in-Fault
-unfolding wdebugOf
+unfolding wdebug_of
 returns-in-Fault c =
     rw (← c.operand-target.ensures, ← c.plus-pc.ensures, ← c.control.ensures, c.in-At.is, c.in-Fault.is, ← c.refused.ensures)
 

@@ -1,14 +1,14 @@
 -- `machine::perform::push_status` meets its contract. Assumes nothing.
 use Rattle.memory.specs.MemoryLaws.{not-stored}
-use Rattle.instructions.specs.Perform.{status_pushed as statusPushedOf}
+use Rattle.instructions.specs.Perform.{status_pushed as status_pushed_of}
 use Rattle.machine.proofs.perform.push_status.Goals as goal
 
 pub returns-in-Done : goal.returns-in-Done
-unfolding statusPushedOf
+unfolding status_pushed_of
 returns-in-Done c =
     rw (← c.address.ensures, ← c.minus-sp.ensures, c.store.ensures.1, ← c.store.ensures.0, c.in-Done.is, ← c.with_address-pushed.ensures, ← c.with_status.ensures, ← c.completed.ensures)
 
 pub returns-in-Fault : goal.returns-in-Fault
-unfolding statusPushedOf
+unfolding status_pushed_of
 returns-in-Fault c =
     rw (← c.address.ensures, ← c.minus-sp.ensures, c.store.ensures.1, not-stored _ _ _ _ _ _ c.store.ensures.0 c.in-Fault.is, ← c.store.ensures.0, c.in-Fault.is, ← c.faulted.ensures)

@@ -1,7 +1,7 @@
 use mathlib.Core.Path.{sym}
 use Rattle.manual.specs.Address.{destination_of}
 use Rattle.lines0to3.specs.MoveLaws.{move_to_data, move_data}
-use Rattle.quick_parts.specs.Near.{at as spotAt, put_second}
+use Rattle.quick_parts.specs.Near.{at as spot_at, put_second}
 use Rattle.instructions.specs.Moves.{move as move_of}
 use Rattle.quick_bodies.proofs.parts.move_part.Goals as goal
 
@@ -13,5 +13,5 @@ returns-then-op-eq0 c = λ at h.
 pub returns : goal.returns
 unfolding move_of destination_of
 returns c = λ at h.
-    let k = spotAt _ _ _ _ _ c.in-At.is (c.spot.ensures _ (sym c.address_after-a.ensures)) in
+    let k = spot_at _ _ _ _ _ c.in-At.is (c.spot.ensures _ (sym c.address_after-a.ensures)) in
     rw (h, ← c.move_codes-codes.ensures, put_second _ _ _ _ _ _ _ _ _ _ k _, ← c.store-c.ensures) c.stored.ensures

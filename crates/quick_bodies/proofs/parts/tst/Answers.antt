@@ -1,7 +1,7 @@
-use Rattle.instructions.specs.Line4.{tst as tstOf}
+use Rattle.instructions.specs.Line4.{tst as tst_of}
 use Rattle.quick_bodies.proofs.parts.tst.Goals as goal
 
 pub returns : goal.returns
-unfolding tstOf
+unfolding tst_of
 returns c = λ at m h.
     rw (h, ← c.size_of.ensures, ← c.move_codes-codes.ensures, ← c.no_write.ensures, ← c.done.ensures) (c.changed.ensures _)

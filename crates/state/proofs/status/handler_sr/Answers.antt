@@ -3,7 +3,7 @@ use mathlib.Core.Path.{◌≡◌}
 use mathlib.Core.Bool.{true, false}
 use native.Mathlib.Omega.{arith}
 use Rattle.manual.specs.Bits.{with_bit}
-use Rattle.manual.specs.Exceptions.{with_mask, handler_sr as handlerSrOf}
+use Rattle.manual.specs.Exceptions.{with_mask, handler_sr as handler_sr_of}
 use Rattle.word.specs.BitLaws.{with_parts_lem}
 use Rattle.state.proofs.status.handler_sr.Goals as goal
 
@@ -30,11 +30,11 @@ mask_below : (sr : ℕ) → sr % 0x100 ≡ sr % 0x2000 % 0x100
 mask_below sr = omega arith
 
 pub returns-in-Kept : goal.returns-in-Kept
-unfolding handlerSrOf
+unfolding handler_sr_of
 returns-in-Kept c = rw c.in-Kept.is (supervising c.args.sr (omega arith))
 
 pub returns-in-To : goal.returns-in-To
-unfolding handlerSrOf
+unfolding handler_sr_of
 returns-in-To c =
     let sr : ℕ = c.args.sr in
     rw (c.in-To.is, ← supervising sr (omega arith), mask-above sr, mask_below sr) (masked (sr / 0x4000 % 2) (sr % 0x2000) _)
