@@ -1,7 +1,7 @@
-//! Finds the archive `libharness_c.a` and the original's text.
+//! Finds the archive `libharness.a` and the original's text.
 //!
-//! `HARNESS_LIB` is the folder of the archive (default: crates/harness_c/out of the repository, where
-//! `rt lib` in crates/harness_c puts it). `ORIGINAL` is the folder of the original's cpu.rs (default:
+//! `HARNESS_LIB` is the folder of the archive (default: target/staticlib of the repository, where
+//! `host/archive` puts it). `ORIGINAL` is the folder of the original's cpu.rs (default:
 //! ../shared/docs/src, beside the repository). The text is compiled where it lies and never copied.
 
 use std::env;
@@ -17,16 +17,16 @@ fn main() {
 
     let folder = match env::var("HARNESS_LIB") {
         Ok(given) => PathBuf::from(given),
-        Err(_) => root.join("crates").join("harness_c").join("out"),
+        Err(_) => root.join("target").join("staticlib"),
     };
-    let archive = folder.join("libharness_c.a");
+    let archive = folder.join("libharness.a");
     if archive.is_file() {
         println!("cargo:rerun-if-changed={}", archive.display());
     } else {
-        println!("cargo:warning=no {}: make it with 'rt lib' in crates/harness_c, or give its folder in HARNESS_LIB", archive.display());
+        println!("cargo:warning=no {}: make it with host/archive, or give its folder in HARNESS_LIB", archive.display());
     }
     println!("cargo:rustc-link-search=native={}", folder.display());
-    println!("cargo:rustc-link-lib=static=harness_c");
+    println!("cargo:rustc-link-lib=static=harness");
 
     let original = match env::var("ORIGINAL") {
         Ok(given) => PathBuf::from(given),

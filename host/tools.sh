@@ -46,11 +46,11 @@ find_rust() {
 # A path that was given is meant from where the script was called.
 given() { case $1 in /*) echo "$1" ;; *) echo "$OLDPWD/$1" ;; esac; }
 
-# Sets `archive`, the folder of libharness_c.a.
+# Sets `archive`, the folder of libharness.a.
 find_archive() {
-    archive=../crates/harness_c/out
+    archive=../target/staticlib
     [ -z "${HARNESS_LIB:-}" ] || archive=$(given "$HARNESS_LIB")
-    [ -f "$archive/libharness_c.a" ] || lacks "$archive/libharness_c.a is not there: make it with 'rt lib' in crates/harness_c, or give its folder in HARNESS_LIB"
+    [ -f "$archive/libharness.a" ] || lacks "$archive/libharness.a is not there: make it with host/archive, or give its folder in HARNESS_LIB"
     archive=$(cd "$archive" && pwd)
 }
 
@@ -67,7 +67,7 @@ find_original() {
 # files in order finds it there.
 build() {
     mkdir -p "$2"
-    "${rust[@]}" --crate-type rlib --crate-name host src/lib.rs ${archive:+-L native="$archive" -l static=harness_c} -o "$2/libhost.rlib"
+    "${rust[@]}" --crate-type rlib --crate-name host src/lib.rs ${archive:+-L native="$archive" -l static=harness} -o "$2/libhost.rlib"
     if [ -n "${original:-}" ]; then
         printf '#[path = "%s"]\nmod cpu;\n' "$original" >"$2/original.rs"
         set -- "$@" --cfg original
@@ -78,5 +78,5 @@ build() {
 # build_c PROGRAM FOLDER [PART..]: compiles srecords/PROGRAM.c, and the parts beside it, over the archive to FOLDER/PROGRAM.
 build_c() {
     mkdir -p "$2"
-    "$c" -O2 -Wall -Wextra -static "srecords/$1.c" "${@:3}" "$archive/libharness_c.a" -o "$2/$1"
+    "$c" -O2 -Wall -Wextra -static "srecords/$1.c" "${@:3}" "$archive/libharness.a" -o "$2/$1"
 }

@@ -1,4 +1,4 @@
-//! The functions of `libharness_c.a`, as crates/harness_c exports them. Nothing checks these
+//! The functions of `libharness.a`, as crates/harness_c exports them. Nothing checks these
 //! declarations against its source: they stand here alone, and `lib.rs` alone calls them.
 //!
 //! A lent slice is a pointer and a length in bytes. The functions keep no pointer.

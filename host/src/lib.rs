@@ -1,4 +1,4 @@
-//! A ColdFire core over lent memory, for Rust programs: safe functions over `libharness_c.a`.
+//! A ColdFire core over lent memory, for Rust programs: safe functions over `libharness.a`.
 //!
 //! The state of the core is a block of 128 bytes ([`State`] writes and reads it), the memory a byte
 //! slice from address 0, big-endian, of at most 16,777,216 bytes. After [`Reply::Done`] the block

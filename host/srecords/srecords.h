@@ -1,4 +1,4 @@
-/* The two calls on S-records: of libharness_c.a, and the same in plain C (plain.c). Each answers a
+/* The two calls on S-records: of libharness.a, and the same in plain C (plain.c). Each answers a
    reply, and 256 times the start address or the length of the written text. Nothing checks these
    declarations against crates/harness_c. */
 #ifndef SRECORDS_H
