@@ -129,18 +129,18 @@ pub fn put(
     codes: u32,
     first: Write,
     second: Write,
-    p: Place,
+    p: Result<Place, Fault>,
     z: Size,
     v: u32,
 ) -> Change
     ensures { result ≡ put_of g.now z v p (done_of next codes first second) }
 {
     match p {
-        Place::D(r) => done(next, codes, first, write_data(r, merged(z, data(g, r), v))),
-        Place::A(r) => done(next, codes, first, write_address(r, v)),
-        Place::M(a) => store(next, codes, first, second, a, z, v),
-        Place::I(_) => done(next, codes, first, second),
-        Place::Fault(x) => refused(x),
+        Ok(Place::D(r)) => done(next, codes, first, write_data(r, merged(z, data(g, r), v))),
+        Ok(Place::A(r)) => done(next, codes, first, write_address(r, v)),
+        Ok(Place::M(a)) => store(next, codes, first, second, a, z, v),
+        Ok(Place::I(_)) => done(next, codes, first, second),
+        Err(x) => refused(x),
     }
 }
 

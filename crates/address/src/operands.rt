@@ -3,7 +3,7 @@ ghost use Rattle.std.specs.Prelude.{◌≡◌, ◌+◌, ◌-◌, ◌*◌, ◌/�
 ghost use Rattle.manual.specs.Memory.{mapped};
 ghost use Rattle.manual.specs.Address.{operand as operand_of, extension as extension_of, index as index_of, indexed as indexed_of, immediate as immediate_of, locate as locate_of, moved as moved_of, fetch as fetch_of, value as value_of, reached as reached_of, control as control_of, source as source_of, destination as destination_of};
 
-use manual::{Destination, Got, Operand, Place, Reached, Size, Source, Write};
+use manual::{Destination, Fault, Operand, Place, Size, Source, Write};
 use memory::load;
 use word::registers::{address, data, general, no_write, write_address};
 use word::word::{bytes, cut, minus, plus, sign_extended};
@@ -81,61 +81,52 @@ pub fn indexed(g: &[u32; 16], base: u32, w: u32) -> u32
 }
 
 // The place of an operand, or the fault of its extension words.
-pub fn locate(g: &[u32; 16], mem: &[u8], pc: u32, o: Operand, z: Size) -> Place
+pub fn locate(
+    g: &[u32; 16],
+    mem: &[u8],
+    pc: u32,
+    o: Operand,
+    z: Size,
+) -> Result<Place, Fault>
     ensures { result ≡ locate_of g.now (mapped mem.now) pc o z }
 {
-    match o {
+    Ok(match o {
         Operand::Data(r) => Place::D(r),
         Operand::Address(r) => Place::A(r),
         Operand::Indirect(r) => Place::M(address(g, r)),
         Operand::PostIncrement(r) => Place::M(address(g, r)),
         Operand::PreDecrement(r) => Place::M(minus(address(g, r), bytes(z))),
-        Operand::Displaced(r) => match load(mem, pc, Size::Word) {
-            Got::Value(w) => Place::M(plus(address(g, r), sign_extended(Size::Word, w))),
-            Got::Fault(x) => Place::Fault(x),
-        },
-        Operand::Indexed(r) => match load(mem, pc, Size::Word) {
-            Got::Value(w) => Place::M(indexed(g, address(g, r), w)),
-            Got::Fault(x) => Place::Fault(x),
-        },
-        Operand::AbsoluteWord => match load(mem, pc, Size::Word) {
-            Got::Value(w) => Place::M(sign_extended(Size::Word, w)),
-            Got::Fault(x) => Place::Fault(x),
-        },
-        Operand::AbsoluteLong => match load(mem, pc, Size::Long) {
-            Got::Value(w) => Place::M(w),
-            Got::Fault(x) => Place::Fault(x),
-        },
-        Operand::PcDisplaced => match load(mem, pc, Size::Word) {
-            Got::Value(w) => Place::M(plus(pc, sign_extended(Size::Word, w))),
-            Got::Fault(x) => Place::Fault(x),
-        },
-        Operand::PcIndexed => match load(mem, pc, Size::Word) {
-            Got::Value(w) => Place::M(indexed(g, pc, w)),
-            Got::Fault(x) => Place::Fault(x),
-        },
-        Operand::Immediate => immediate(mem, pc, z),
+        Operand::Displaced(r) => {
+            let w = load(mem, pc, Size::Word)?;
+            Place::M(plus(address(g, r), sign_extended(Size::Word, w)))
+        }
+        Operand::Indexed(r) => {
+            let w = load(mem, pc, Size::Word)?;
+            Place::M(indexed(g, address(g, r), w))
+        }
+        Operand::AbsoluteWord => {
+            let w = load(mem, pc, Size::Word)?;
+            Place::M(sign_extended(Size::Word, w))
+        }
+        Operand::AbsoluteLong => Place::M(load(mem, pc, Size::Long)?),
+        Operand::PcDisplaced => {
+            let w = load(mem, pc, Size::Word)?;
+            Place::M(plus(pc, sign_extended(Size::Word, w)))
+        }
+        Operand::PcIndexed => Place::M(indexed(g, pc, load(mem, pc, Size::Word)?)),
+        Operand::Immediate => immediate(mem, pc, z)?,
         Operand::Zero => Place::I(0),
-    }
+    })
 }
 
-fn immediate(mem: &[u8], pc: u32, z: Size) -> Place
+fn immediate(mem: &[u8], pc: u32, z: Size) -> Result<Place, Fault>
     ensures { result ≡ immediate_of (mapped mem.now) pc z }
 {
-    match z {
-        Size::Byte => match load(mem, pc, Size::Word) {
-            Got::Value(w) => Place::I(w % 0x100),
-            Got::Fault(x) => Place::Fault(x),
-        },
-        Size::Word => match load(mem, pc, Size::Word) {
-            Got::Value(w) => Place::I(w),
-            Got::Fault(x) => Place::Fault(x),
-        },
-        Size::Long => match load(mem, pc, Size::Long) {
-            Got::Value(w) => Place::I(w),
-            Got::Fault(x) => Place::Fault(x),
-        },
-    }
+    Ok(Place::I(match z {
+        Size::Byte => load(mem, pc, Size::Word)? % 0x100,
+        Size::Word => load(mem, pc, Size::Word)?,
+        Size::Long => load(mem, pc, Size::Long)?,
+    }))
 }
 
 // What (An)+ and -(An) write to their register; no write for any other operand.
@@ -150,43 +141,47 @@ pub fn moved(g: &[u32; 16], o: Operand, z: Size) -> Write
 }
 
 // The value at a place, or the fault.
-pub fn fetch(g: &[u32; 16], mem: &[u8], p: Place, z: Size) -> Got
+pub fn fetch(
+    g: &[u32; 16],
+    mem: &[u8],
+    p: Result<Place, Fault>,
+    z: Size,
+) -> Result<u32, Fault>
     ensures { result ≡ fetch_of g.now (mapped mem.now) p z }
 {
-    match p {
-        Place::D(r) => Got::Value(cut(z, data(g, r))),
-        Place::A(r) => Got::Value(cut(z, address(g, r))),
+    match p? {
+        Place::D(r) => Ok(cut(z, data(g, r))),
+        Place::A(r) => Ok(cut(z, address(g, r))),
         Place::M(a) => load(mem, a, z),
-        Place::I(v) => Got::Value(cut(z, v)),
-        Place::Fault(x) => Got::Fault(x),
+        Place::I(v) => Ok(cut(z, v)),
     }
 }
 
 // The value of an operand, or the fault.
-pub fn value(g: &[u32; 16], mem: &[u8], pc: u32, o: Operand, z: Size) -> Got
+pub fn value(g: &[u32; 16], mem: &[u8], pc: u32, o: Operand, z: Size) -> Result<u32, Fault>
     ensures { result ≡ value_of g.now (mapped mem.now) pc o z }
 {
     fetch(g, mem, locate(g, mem, pc, o, z), z)
 }
 
-fn reached(p: Place) -> Reached
+fn reached(p: Result<Place, Fault>) -> Option<Result<u32, Fault>>
     ensures { result ≡ reached_of p }
 {
     match p {
-        Place::M(a) => Reached::At(Got::Value(a)),
-        Place::Fault(x) => Reached::At(Got::Fault(x)),
-        _ => Reached::NoAddress,
+        Ok(Place::M(a)) => Some(Ok(a)),
+        Ok(_) => None,
+        Err(x) => Some(Err(x)),
     }
 }
 
 // The address of a control operand, or that the mode has none.
-pub fn control(g: &[u32; 16], mem: &[u8], pc: u32, o: Operand) -> Reached
+pub fn control(g: &[u32; 16], mem: &[u8], pc: u32, o: Operand) -> Option<Result<u32, Fault>>
     ensures { result ≡ control_of g.now (mapped mem.now) pc o }
 {
     match o {
-        Operand::PostIncrement(_) => Reached::NoAddress,
-        Operand::PreDecrement(_) => Reached::NoAddress,
-        Operand::Immediate => Reached::NoAddress,
+        Operand::PostIncrement(_) => None,
+        Operand::PreDecrement(_) => None,
+        Operand::Immediate => None,
         _ => reached(locate(g, mem, pc, o, Size::Long)),
     }
 }
@@ -213,7 +208,7 @@ pub fn source(g: &[u32; 16], mem: &[u8], pc: u32, op: u32, z: Size) -> Source
 {
     match op / 8 % 8 {
         0 => {
-            let got = Got::Value(cut(z, data(g, op % 8)));
+            let got = Ok(cut(z, data(g, op % 8)));
             let none = no_write();
             let next = plus(pc, 0);
             Source {
@@ -223,7 +218,7 @@ pub fn source(g: &[u32; 16], mem: &[u8], pc: u32, op: u32, z: Size) -> Source
             }
         }
         1 => {
-            let got = Got::Value(cut(z, address(g, op % 8)));
+            let got = Ok(cut(z, address(g, op % 8)));
             let none = no_write();
             let next = plus(pc, 0);
             Source {

@@ -1,39 +1,25 @@
 // Quotients and remainders of longs by longs and by words.
-ghost use Rattle.std.specs.Prelude.{◌≡◌, true, ◌<◌, nat_abs};
+ghost use Rattle.std.specs.Prelude.{◌≡◌, ◌<◌, Some, nat_abs};
 ghost use Rattle.manual.specs.Word.{signed};
 ghost use Rattle.manual.specs.declared.Size.TheVariants.{Long};
-ghost use Rattle.manual.specs.Divide.{no_quotient, quotient as quotient_of, signed_quotient, word_quotient, signed_word_quotient, overflow_codes};
+ghost use Rattle.manual.specs.Divide.{quotient as quotient_of, signed_quotient, word_quotient, signed_word_quotient, overflow_codes};
 
 use manual::{Quotient, Size};
 use word::flags::codes;
 use word::word::{minus, plus, sign_extended};
 
-fn no_quotient() -> Quotient
-    ensures { result ≡ no_quotient }
+fn fitting(quotient: u32, remainder: u32) -> Option<Quotient>
+    ensures { result ≡ Some (record { quotient = quotient; remainder = remainder }) }
 {
-    Quotient {
-        fits: false,
-        quotient: 0,
-        remainder: 0,
-    }
-}
-
-fn fitting(q: u32, r: u32) -> Quotient
-    ensures { result ≡ record { fits = true; quotient = q; remainder = r } }
-{
-    Quotient {
-        fits: true,
-        quotient: q,
-        remainder: r,
-    }
+    Some(Quotient { quotient, remainder })
 }
 
 // DIVU.L, REMU.L.
-pub fn quotient(a: u32, b: u32) -> Quotient
+pub fn quotient(a: u32, b: u32) -> Option<Quotient>
     ensures { result ≡ quotient_of a b }
 {
     if b == 0 {
-        return no_quotient();
+        return None;
     }
     fitting(a / b, a % b)
 }
@@ -50,7 +36,7 @@ fn magnitude(a: u32) -> u32
 }
 
 // The one quotient that does not fit is that of -2^31 by -1.
-fn by_magnitudes(a: u32, b: u32) -> Quotient
+fn by_magnitudes(a: u32, b: u32) -> Option<Quotient>
     requires { 0 < b }
     ensures { result ≡ signed_quotient a b }
 {
@@ -70,47 +56,42 @@ fn by_magnitudes(a: u32, b: u32) -> Quotient
     if q < 0x8000_0000 {
         return fitting(q, minus(0, r));
     }
-    no_quotient()
+    None
 }
 
 // DIVS.L, REMS.L.
-pub fn signed_quotient(a: u32, b: u32) -> Quotient
+pub fn signed_quotient(a: u32, b: u32) -> Option<Quotient>
     ensures { result ≡ signed_quotient a b }
 {
     if b == 0 {
-        return no_quotient();
+        return None;
     }
     by_magnitudes(a, b)
 }
 
 // DIVU.W.
-pub fn word_quotient(a: u32, b: u32) -> Quotient
+pub fn word_quotient(a: u32, b: u32) -> Option<Quotient>
     ensures { result ≡ word_quotient a b }
 {
     if b == 0 {
-        return no_quotient();
+        return None;
     }
     let q = a / b;
     if q < 0x1_0000 {
         return fitting(q, a % b);
     }
-    no_quotient()
+    None
 }
 
 // DIVS.W: the quotient of longs, where it is a signed word.
-pub fn signed_word_quotient(a: u32, b: u32) -> Quotient
+pub fn signed_word_quotient(a: u32, b: u32) -> Option<Quotient>
     ensures { result ≡ signed_word_quotient a b }
 {
-    let long = signed_quotient(a, sign_extended(Size::Word, b));
-    if long.fits {
-        if plus(long.quotient, 0x8000) < 0x1_0000 {
-            fitting(long.quotient % 0x1_0000, long.remainder % 0x1_0000)
-        } else {
-            no_quotient()
-        }
-    } else {
-        no_quotient()
+    let long = signed_quotient(a, sign_extended(Size::Word, b))?;
+    if plus(long.quotient, 0x8000) < 0x1_0000 {
+        return fitting(long.quotient % 0x1_0000, long.remainder % 0x1_0000);
     }
+    None
 }
 
 // The flags of an overflow: the quotient is too large.

@@ -5,21 +5,21 @@ ghost use Rattle.manual.specs.Lent.{lent};
 ghost use Rattle.manual.specs.Exceptions.{level_taken, masked as masked_of, exception as exception_of, interrupt as interrupt_of, rte as rte_of};
 
 use exceptions::entry::{entered, refusal, returned};
-use manual::{Cpu, Level, Reply, Stepped};
+use manual::{Cpu, Reply, Stepped};
 use state::replies::is_done;
 use state::status::first_refusal;
 
-fn level_taken(level: Level) -> bool
+fn level_taken(level: Option<u8>) -> bool
     ensures { result ≡ level_taken level }
 {
     match level {
-        Level::Kept => true,
-        Level::To(l) => l < 8,
+        None => true,
+        Some(l) => l < 8,
     }
 }
 
 // Enters an exception at a level, or keeping the mask.
-pub fn exception(cpu: Cpu, mem: &mut [u8], vector: u8, pc: u32, level: Level) -> Stepped
+pub fn exception(cpu: Cpu, mem: &mut [u8], vector: u8, pc: u32, level: Option<u8>) -> Stepped
     ensures { outcome result mem.new ≡ exception_of cpu (lent mem.old) vector pc level }
 {
     let first = first_refusal(cpu, &*mem);
@@ -53,7 +53,7 @@ pub fn interrupt(cpu: Cpu, mem: &mut [u8], vector: u8, level: u8) -> Stepped
     if masked(cpu.sr, level) {
         return refusal(cpu, Reply::Masked);
     }
-    entered(cpu, cpu, Level::To(level), vector, cpu.pc, mem)
+    entered(cpu, cpu, Some(level), vector, cpu.pc, mem)
 }
 
 // Returns from an exception.

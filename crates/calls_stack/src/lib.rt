@@ -7,7 +7,7 @@ ghost use Rattle.manual.specs.Lent.{lent};
 ghost use Rattle.manual.specs.Exceptions.{push32 as push32_of, not_popped, pop32 as pop32_of};
 
 use exceptions::entry::{faulted, refusal};
-use manual::{Cpu, Got, Popped, Reply, Size, Stepped, Stored};
+use manual::{Cpu, Popped, Reply, Size, Stepped};
 use memory::{load, store};
 use state::replies::{fault_reply, is_done};
 use state::status::first_refusal;
@@ -25,7 +25,7 @@ pub fn push32(cpu: Cpu, mem: &mut [u8], v: u32) -> Stepped
     let g = cpu.r;
     let sp = minus(address(&g, 7), 4);
     match store(mem, sp, Size::Long, v) {
-        Stored::Done => {
+        Ok(()) => {
             let next = with_address(cpu, 7, sp);
             Stepped {
                 reply: Reply::Done,
@@ -33,7 +33,7 @@ pub fn push32(cpu: Cpu, mem: &mut [u8], v: u32) -> Stepped
                 cpu: next,
             }
         }
-        Stored::Fault(x) => faulted(cpu, x),
+        Err(x) => faulted(cpu, x),
     }
 }
 
@@ -58,7 +58,7 @@ pub fn pop32(cpu: Cpu, mem: &[u8]) -> Popped
     let g = cpu.r;
     let sp = address(&g, 7);
     match load(mem, sp, Size::Long) {
-        Got::Value(v) => {
+        Ok(v) => {
             let next = with_address(cpu, 7, plus(sp, 4));
             Popped {
                 reply: Reply::Done,
@@ -66,6 +66,6 @@ pub fn pop32(cpu: Cpu, mem: &[u8]) -> Popped
                 cpu: next,
             }
         }
-        Got::Fault(x) => not_popped(cpu, fault_reply(x)),
+        Err(x) => not_popped(cpu, fault_reply(x)),
     }
 }

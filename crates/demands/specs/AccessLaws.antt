@@ -1,6 +1,6 @@
 -- What an access and a load answer, and what goes by them. The laws that look into memory, at the length of storage and at where an
 -- address lies in it, stand here. Assumes nothing.
-use Rattle.std.specs.Prelude.{ℕ, ◌+◌, ◌≤◌, ◌<◌, ◌≡◌, ◌↔◌, length, get_or}
+use Rattle.std.specs.Prelude.{ℕ, ◌+◌, ◌≤◌, ◌<◌, ◌≡◌, ◌↔◌, length, get_or, Result, Ok, Err}
 use Rattle.std.proofs.Math.Path.{refl}
 use Rattle.std.proofs.Common.{sym, ap, ◌∙◌}
 use native.Mathlib.Omega.{arith}
@@ -10,12 +10,6 @@ use Rattle.manual.specs.declared.Size.{Size}
 use Rattle.manual.specs.declared.Size.TheVariants.{Byte, Word}
 use Rattle.manual.specs.declared.Fault.{Fault}
 use Rattle.manual.specs.declared.Fault.TheVariants.{Outside as Out}
-use Rattle.manual.specs.declared.Access.{Access}
-use Rattle.manual.specs.declared.Access.TheVariants.{Here, Not}
-use Rattle.manual.specs.declared.Got.{Got}
-use Rattle.manual.specs.declared.Got.TheVariants.{Value, Fault as NoValue}
-use Rattle.manual.specs.declared.Stored.{Stored}
-use Rattle.manual.specs.declared.Stored.TheVariants.{Done as Taken, Fault as NotTaken}
 use Rattle.manual.specs.declared.Reply.TheVariants.{Done}
 use Rattle.manual.specs.Word.{bytes}
 use Rattle.manual.specs.Memory.{Memory, storage_of, value_at, access, taken, found, load, number_in, number_at}
@@ -27,10 +21,10 @@ use Rattle.demands.specs.Exact.{Bytes}
 
 -- ---- an access goes by the length of storage, and lies at its address
 
-pub here_or_not : (p : ℕ) (x : Fault) → Here p ≡ Not x → ⊥
+pub here_or_not : (p : ℕ) (x : Fault) → Ok p ≡ Err x → ⊥
 here_or_not p x e = let z : ◌≡◌ {A = ℕ} 0 1 = cc in omega arith
 
-pub taken_or_not : (x : Fault) → NotTaken x ≡ Taken → ⊥
+pub taken_or_not : (x : Fault) → Err x ≡ (Ok tt) → ⊥
 taken_or_not x e = let z : ◌≡◌ {A = ℕ} 0 1 = cc in omega arith
 
 module _ (m : Memory) (a n : ℕ) where
@@ -43,28 +37,28 @@ module _ (m : Memory) (a n : ℕ) where
   pub outside-is : Outside m a n ↔ (length (storage_of m) < a + n)
   outside-is = (λ h. by-lt (length (storage_of m)) (a + n) (λ o. o) (λ l. absurd (here_or_not a Out (sym (is-here m a n l) ∙ h))), is-not m a n)
 
-  pub here-is : (p : ℕ) → access m a n ≡ Here p → (p ≡ a) × (a + n ≤ length (storage_of m))
+  pub here-is : (p : ℕ) → access m a n ≡ Ok p → (p ≡ a) × (a + n ≤ length (storage_of m))
   here-is p h =
       by-lt (length (storage_of m)) (a + n)
       (λ o. absurd (here_or_not p Out (sym h ∙ is-not m a n o)))
-      (λ l. (let e : Here p ≡ Here a = sym h ∙ is-here m a n l in cc, l))
+      (λ l. (let e : Ok p ≡ Ok a = sym h ∙ is-here m a n l in cc, l))
 
 -- ---- what a load finds
 
 module _ (m : Memory) (a : ℕ) where
-  pub load_at : (z : Size) → a + bytes z ≤ length (storage_of m) → load m a z ≡ Value (value_at (storage_of m) a (bytes z))
+  pub load_at : (z : Size) → a + bytes z ≤ length (storage_of m) → load m a z ≡ Ok (value_at (storage_of m) a (bytes z))
   unfolding load
   load_at z l = rw (is-here m a (bytes z) l)
 
-  pub load_inside : (z : Size) → Inside m a (bytes z) → load m a z ≡ Value (number_at m a z)
+  pub load_inside : (z : Size) → Inside m a (bytes z) → load m a z ≡ Ok (number_at m a z)
   unfolding load
   load_inside z = by (access m a (bytes z))
     where
-      by : (x : Access) → taken x ≡ Taken → found (storage_of m) z x ≡ Value (number_in (found (storage_of m) z x))
-      by (Here at) h = refl
-      by (Not x) h = absurd (taken_or_not x h)
+      by : (x : Result ℕ Fault) → taken x ≡ (Ok tt) → found (storage_of m) z x ≡ Ok (number_in (found (storage_of m) z x))
+      by (Ok at) h = refl
+      by (Err x) h = absurd (taken_or_not x h)
 
-  pub load-not : (z : Size) (x : Fault) → access m a (bytes z) ≡ Not x → load m a z ≡ NoValue x
+  pub load-not : (z : Size) (x : Fault) → access m a (bytes z) ≡ Err x → load m a z ≡ Err x
   unfolding load
   load-not z x h = rw h
 
@@ -80,24 +74,24 @@ module _ (m : Memory) (a : ℕ) where
   unfolding load
   word_lt all = by (access m a 2)
     where
-      by : (x : Access) → number_in (found (storage_of m) Word x) < 0x1_0000
-      by (Here at) = value_lt (storage_of m) at 2 all
-      by (Not x) = omega arith
+      by : (x : Result ℕ Fault) → number_in (found (storage_of m) Word x) < 0x1_0000
+      by (Ok at) = value_lt (storage_of m) at 2 all
+      by (Err x) = omega arith
 
 -- ---- what holds of a refusal with any fault, and of what goes on, holds of what goes by an access
 
 module _ (P : Outcome → Type 0) (given : Cpu) (m : Memory) (refused : (x : Fault) → P (unchanged given (fault_reply x) m)) where
-  pub accessing-all : (x : Access) (f : ℕ → Outcome) → ((at : ℕ) → P (f at)) → P (accessing given m x f)
-  accessing-all (Here at) f h = h at
-  accessing-all (Not x) f h = refused x
+  pub accessing-all : (x : Result ℕ Fault) (f : ℕ → Outcome) → ((at : ℕ) → P (f at)) → P (accessing given m x f)
+  accessing-all (Ok at) f h = h at
+  accessing-all (Err x) f h = refused x
 
-  pub loading-all : (x : Got) (f : ℕ → Outcome) → ((v : ℕ) → P (f v)) → P (loading given m x f)
-  loading-all (Value v) f h = h v
-  loading-all (NoValue x) f h = refused x
+  pub loading-all : (x : Result ℕ Fault) (f : ℕ → Outcome) → ((v : ℕ) → P (f v)) → P (loading given m x f)
+  loading-all (Ok v) f h = h v
+  loading-all (Err x) f h = refused x
 
-  pub taking-all : (x : Stored) (o : Outcome) → P o → P (taking given m x o)
-  taking-all Taken o h = h
-  taking-all (NotTaken x) o h = refused x
+  pub taking-all : (x : Result Unit Fault) (o : Outcome) → P o → P (taking given m x o)
+  taking-all (Ok tt) o h = h
+  taking-all (Err x) o h = refused x
 
 -- ---- and what was done found its place
 
@@ -107,12 +101,12 @@ fault_number Out e = omega arith
 pub fault_not : (x : Fault) → fault_reply x ≡ Done → ⊥
 fault_not x e = fault_number x (ap number_of e)
 
-pub record Found (x : Access) (f : ℕ → Outcome) (o : Outcome) : Type 0 where
+pub record Found (x : Result ℕ Fault) (f : ℕ → Outcome) (o : Outcome) : Type 0 where
   pub place : ℕ
-  pub here : x ≡ Here place
+  pub here : x ≡ Ok place
   pub same : o ≡ f place
 
-pub accessing-done : (given : Cpu) (m : Memory) (x : Access) (f : ℕ → Outcome) → (accessing given m x f).stepped.reply ≡ Done → Found x f (accessing given m x f)
+pub accessing-done : (given : Cpu) (m : Memory) (x : Result ℕ Fault) (f : ℕ → Outcome) → (accessing given m x f).stepped.reply ≡ Done → Found x f (accessing given m x f)
 unfolding refusal
-accessing-done given m (Here at) f e = record { place = at; here = refl; same = refl }
-accessing-done given m (Not x) f e = absurd (fault_not x e)
+accessing-done given m (Ok at) f e = record { place = at; here = refl; same = refl }
+accessing-done given m (Err x) f e = absurd (fault_not x e)

@@ -4,20 +4,16 @@
 -- A step fetches its opcode word and makes the reads of the word's row; what it does to memory after them is listed in Effects.
 -- The reads stand in tables, line by line and row by row in the order of the rows. Where a read's address hangs on a word that was read
 -- before it, that word is what a load finds there. Assumes nothing.
-use Rattle.std.specs.Prelude.{ℕ, zero, suc, ◌/◌, ◌%◌, ◌≡◌, cond, List, [], ◌∷◌, ◌++◌, eqb, ltb, get_or}
+use Rattle.manual.specs.declared.Fault.{Fault}
+use Rattle.std.specs.Prelude.{ℕ, zero, suc, ◌/◌, ◌%◌, ◌≡◌, cond, List, [], ◌∷◌, ◌++◌, eqb, ltb, get_or, Result, Option, Ok, Err, Some, None}
 use Rattle.manual.specs.declared.Cpu.{Cpu}
 use Rattle.manual.specs.declared.Size.{Size}
 use Rattle.manual.specs.declared.Size.TheVariants.{Byte, Word, Long}
 use Rattle.manual.specs.declared.Fault.TheVariants.{Outside as Out}
-use Rattle.manual.specs.declared.Access.TheVariants.{Not}
-use Rattle.manual.specs.declared.Stored.TheVariants.{Done as Taken}
 use Rattle.manual.specs.declared.Operand.{Operand}
 use Rattle.manual.specs.declared.Operand.TheVariants.{Immediate}
 use Rattle.manual.specs.declared.Place.{Place}
-use Rattle.manual.specs.declared.Place.TheVariants.{D, A, M, I, Fault as NoPlace}
-use Rattle.manual.specs.declared.Reached.{Reached}
-use Rattle.manual.specs.declared.Reached.TheVariants.{At, NoAddress}
-use Rattle.manual.specs.declared.Level.{Level}
+use Rattle.manual.specs.declared.Place.TheVariants.{D, A, M, I}
 use Rattle.manual.specs.Word.{bytes, plus, minus, sign_extended}
 use Rattle.manual.specs.Fields.{bits, line, upper, upper_mode, mode, register, size_field, byte_or_word, low_byte}
 use Rattle.manual.specs.Registers.{address_of}
@@ -38,10 +34,10 @@ wanted a n = record { address = a; count = n }
 
 -- an access of n bytes at a is inside, or it is not (Exact says by the length when)
 abbrev pub Inside : Memory → ℕ → ℕ → Type 0
-Inside m a n = taken (access m a n) ≡ Taken
+Inside m a n = taken (access m a n) ≡ (Ok tt)
 
 abbrev pub Outside : Memory → ℕ → ℕ → Type 0
-Outside m a n = access m a n ≡ Not Out
+Outside m a n = access m a n ≡ Err Out
 
 -- some access of a list is not inside
 pub data SomeOutside (m : Memory) : List Wanted → Type 0 where
@@ -68,12 +64,12 @@ abbrev pub named : ℕ → Operand
 named op = operand_of op
 
 -- the bytes of a place: those at its address, where it is in memory
-abbrev pub own : Place → Size → List Wanted
-own (D r) z = none
-own (A r) z = none
-own (M a) z = wanted a (bytes z) ∷ []
-own (I v) z = none
-own (NoPlace x) z = none
+abbrev pub own : Result Place Fault → Size → List Wanted
+own (Ok (D r)) z = none
+own (Ok (A r)) z = none
+own (Ok (M a)) z = wanted a (bytes z) ∷ []
+own (Ok (I v)) z = none
+own (Err x) z = none
 
 -- the extension words of the operand that a word names, which lie at pc, and no more
 abbrev pub extension_of : ℕ → ℕ → Size → List Wanted
@@ -84,9 +80,9 @@ abbrev pub operand_at : List ℕ → Memory → ℕ → ℕ → Size → List Wa
 operand_at g m pc op z = extension_of pc op z ++ own (locate g m pc (named op) z) z
 
 -- the extension words of a control mode; a mode that has no address has none
-abbrev pub reached_by : Reached → List Wanted → List Wanted
-reached_by (At got) l = l
-reached_by NoAddress l = none
+abbrev pub reached_by : Option (Result ℕ Fault) → List Wanted → List Wanted
+reached_by (Some got) l = l
+reached_by None l = none
 
 abbrev pub control_at : List ℕ → Memory → ℕ → ℕ → List Wanted
 control_at g m pc op = reached_by (control g m pc (named op)) (extension_of pc op Long)
@@ -98,7 +94,7 @@ many_longs (suc left) regs a =
     cond (eqb (regs % 2) 1) (wanted a 4 ∷ many_longs left (regs / 2) (plus a 4)) (many_longs left (regs / 2) a)
 
 -- an entry from the registers s: two longs are stored, sp being A7 with the handler's status register, and the vector is read
-abbrev pub entry_at : Cpu → Level → ℕ → List Wanted
+abbrev pub entry_at : Cpu → Option ℕ → ℕ → List Wanted
 entry_at s level vector =
     let sp : ℕ = address_of (set_sr (handler_sr level s.sr) s).r 7 in
     wanted (pc_place sp) 4 ∷ wanted (frame_place sp) 4 ∷ wanted (vector_place s.vbr vector) 4 ∷ []

@@ -1,16 +1,13 @@
 -- Every call given an admitted state returns one. Document: "A state is admitted when .. Every call keeps this."
 --
 -- AdmittedMeans says what an admitted state is. Assumes nothing.
+use Rattle.manual.specs.declared.Fault.{Fault}
 use Prim.Native.Nat.{ℕ, zero, suc, ◌+◌, ◌^◌, ◌<◌}
-use Rattle.std.specs.Prelude.{◌≡◌, refl, Bool, cond, ◌&&◌, List, ltb, leb, eqb, length}
+use Rattle.std.specs.Prelude.{◌≡◌, refl, Bool, cond, ◌&&◌, List, ltb, leb, eqb, length, Result, Option, Ok, Err, Some, None}
 use Rattle.std.proofs.Math.Bool.{true, false}
 use Rattle.std.proofs.lemmas.Bool.{false≢true}
 use Rattle.manual.specs.declared.Cpu.{Cpu}
-use Rattle.manual.specs.declared.Level.{Level}
-use Rattle.manual.specs.declared.Level.TheVariants.{Kept, To}
 use Rattle.manual.specs.declared.Size.TheVariants.{Long}
-use Rattle.manual.specs.declared.Got.{Got}
-use Rattle.manual.specs.declared.Got.TheVariants.{Value, Fault as NoValue}
 use Rattle.manual.specs.declared.Reply.TheVariants.{Done, NotAdmitted, Stopped, OutOfRange, Masked, WrongVersion, WrongLength}
 use Rattle.manual.specs.declared.Answer.{Answer}
 use Rattle.manual.specs.declared.Action.{Action}
@@ -38,7 +35,7 @@ use Rattle.calls_emac.specs.CallsKept as calls
 pub record Admits : Type 0 where
   pub by-step : (s : Cpu) (l : Lent) → admitted s ≡ true → admitted (step s l).stepped.cpu ≡ true
   pub by-run : (budget : ℕ) (s : Cpu) (l : Lent) → admitted s ≡ true → admitted (run budget s l).ran.cpu ≡ true
-  pub by-exception : (s : Cpu) (l : Lent) (vector pc : ℕ) (level : Level) → admitted s ≡ true → admitted (exception s l vector pc level).stepped.cpu ≡ true
+  pub by-exception : (s : Cpu) (l : Lent) (vector pc : ℕ) (level : Option ℕ) → admitted s ≡ true → admitted (exception s l vector pc level).stepped.cpu ≡ true
   pub by-interrupt : (s : Cpu) (l : Lent) (vector level : ℕ) → admitted s ≡ true → admitted (interrupt s l vector level).stepped.cpu ≡ true
   pub by-rte : (s : Cpu) (l : Lent) → admitted s ≡ true → admitted (rte s l).stepped.cpu ≡ true
   pub by-push32 : (s : Cpu) (l : Lent) (v : ℕ) → admitted s ≡ true → admitted (push32 s l v).stepped.cpu ≡ true
@@ -70,7 +67,7 @@ module _ (given s : Cpu) (m : Memory) (k : admitted given ≡ true) (h : admitte
   act-admitted (Store a z v) = taking-admitted given m k (storing m a z) _ h
   act-admitted (StoreMany mask a) = taking-admitted given m k (access_many 16 m mask a) _ h
   act-admitted (LoadMany mask a) = taking-admitted given m k (access_many 16 m mask a) _ (registers-admitted _ s h)
-  act-admitted (Enter vector pc) = entered-admitted given m k s Kept vector pc h
+  act-admitted (Enter vector pc) = entered-admitted given m k s None vector pc h
   act-admitted Return = returned-admitted given m k s h
   act-admitted (Status v) = set_sr-admitted v s (admitted-emac s h)
   act-admitted (Stop v) = stopped_admitted true (set_sr v s) (set_sr-admitted v s (admitted-emac s h))
@@ -108,7 +105,7 @@ module _ (s : Cpu) (l : Lent) (h : admitted s ≡ true) where
       (either s.stopped (unchanged s Stopped m) _ (refusal-admitted s Stopped h)
       (perform-admitted s (execute s.r s.pc s.sr s.other s.emac m) m h))
 
-  exception-admitted : (vector pc : ℕ) (level : Level) → admitted (exception s l vector pc level).stepped.cpu ≡ true
+  exception-admitted : (vector pc : ℕ) (level : Option ℕ) → admitted (exception s l vector pc level).stepped.cpu ≡ true
   unfolding exception
   exception-admitted vector pc level =
       checked-admitted _
@@ -117,10 +114,10 @@ module _ (s : Cpu) (l : Lent) (h : admitted s ≡ true) where
   interrupt-admitted : (vector level : ℕ) → admitted (interrupt s l vector level).stepped.cpu ≡ true
   unfolding interrupt
   interrupt-admitted vector level =
-      let i : Outcome = entered s s (To level) vector s.pc m in
+      let i : Outcome = entered s s (Some level) vector s.pc m in
       checked-admitted _
       (either (ltb level 8) (cond (masked s.sr level) (unchanged s Masked m) i) (unchanged s OutOfRange m)
-      (either (masked s.sr level) (unchanged s Masked m) i (refusal-admitted s Masked h) (entered-admitted s m h s (To level) vector s.pc h))
+      (either (masked s.sr level) (unchanged s Masked m) i (refusal-admitted s Masked h) (entered-admitted s m h s (Some level) vector s.pc h))
       (refusal-admitted s OutOfRange h))
 
   rte-admitted : admitted (rte s l).stepped.cpu ≡ true
@@ -137,9 +134,9 @@ module _ (s : Cpu) (l : Lent) (h : admitted s ≡ true) where
   unfolding pop32
   pop_admitted = by (is_done (first_refusal s l)) (load m (address_of s.r 7) Long)
     where
-      by : (b : Bool) (x : Got) → admitted (cond b (popped s (address_of s.r 7) x) (not_popped s (first_refusal s l))).cpu ≡ true
-      by true (Value v) = address-admitted 7 _ s h
-      by true (NoValue x) = h
+      by : (b : Bool) (x : Result ℕ Fault) → admitted (cond b (popped s (address_of s.r 7) x) (not_popped s (first_refusal s l))).cpu ≡ true
+      by true (Ok v) = address-admitted 7 _ s h
+      by true (Err x) = h
       by false x = h
 
 set_sr_call-admitted : (s : Cpu) (v : ℕ) → admitted s ≡ true → admitted (set_sr_call s v).cpu ≡ true

@@ -1,6 +1,7 @@
 -- Which reads each body makes, and what it does then: line by line, those of Accesses and Effects. Assumes nothing.
+use Rattle.manual.specs.declared.Fault.{Fault}
 use Prim.Native.Nat.{ℕ, zero, suc, ◌+◌, ◌%◌}
-use Rattle.std.specs.Prelude.{◌≡◌, Bool, eqb, ltb, get_or}
+use Rattle.std.specs.Prelude.{◌≡◌, Bool, eqb, ltb, get_or, Result, Option, Ok, Err, Some, None}
 use Rattle.std.proofs.Math.Path.{refl}
 use Rattle.std.proofs.Math.Bool.{true, false, cond}
 use mathlib.Core.List.{List, [], ◌∷◌, ◌++◌}
@@ -11,19 +12,12 @@ use Rattle.manual.specs.declared.Size.TheVariants.{Byte, Word, Long}
 use Rattle.manual.specs.declared.Emac.{Emac}
 use Rattle.manual.specs.declared.EmacPart.{EmacPart}
 use Rattle.manual.specs.declared.EmacPart.TheVariants.{Acc, Ext, Macsr, Mask}
-use Rattle.manual.specs.declared.Access.{Access}
-use Rattle.manual.specs.declared.Access.TheVariants.{Here, Not}
-use Rattle.manual.specs.declared.Stored.TheVariants.{Done as Taken}
-use Rattle.manual.specs.declared.Got.TheVariants.{Value, Fault as NoValue}
-use Rattle.manual.specs.declared.Reached.{Reached}
-use Rattle.manual.specs.declared.Reached.TheVariants.{At, NoAddress}
 use Rattle.manual.specs.declared.Logic.{Logic}
 use Rattle.manual.specs.declared.Logic.TheVariants.{And, Or, Eor}
 use Rattle.manual.specs.declared.Operand.{Operand}
 use Rattle.manual.specs.declared.Operand.TheVariants.{Immediate}
 use Rattle.manual.specs.declared.Action.TheVariants.{Nothing, ClearAcc, MoveControl}
 use Rattle.manual.specs.declared.ControlRegister.TheVariants.{Cacr, Vbr}
-use Rattle.manual.specs.declared.Named.TheVariants.{Control, Unknown}
 use Rattle.manual.specs.declared.Sum.{Sum}
 use Rattle.manual.specs.declared.Write.{Write}
 use Rattle.manual.specs.declared.Quotient.{Quotient}
@@ -40,7 +34,7 @@ use Rattle.manual.specs.Differences.{any_size}
 use Rattle.manual.specs.Emac.{fractional, read_ext}
 use Rattle.manual.specs.Exceptions.{supervisor}
 use Rattle.manual.specs.Control.{control_register}
-use Rattle.manual.specs.Change.{done, store, acting, enter, illegal, privilege, jump, push, reading, reaching, result}
+use Rattle.manual.specs.Change.{done, store, acting, enter, illegal, privilege, jump, push, reading, reaching, updated}
 use Rattle.instructions.specs.Rows.{first_row, place_in}
 use Rattle.instructions.specs.Line0 as l0
 use Rattle.instructions.specs.Moves as moves
@@ -248,7 +242,7 @@ module _ (g : List ℕ) (at sr : ℕ) (m : Memory) (op : ℕ) where
       n = high_four (number_at m (plus at 2) Word)
 
       by : (a b : Bool) → Does at sr (cond a nothing (cond b nothing (illegal_word at)))
-          (l4.naming sr at (cond a (Control Cacr) (cond b (Control Vbr) Unknown)) λ c. acting sr next no_write (MoveControl writes c n))
+          (l4.naming sr at (cond a (Some Cacr) (cond b (Some Vbr) None)) λ c. acting sr next no_write (MoveControl writes c n))
       by true b = does-nothing refl
       by false true = does-nothing refl
       by false false = illegal-does at sr
@@ -306,7 +300,7 @@ module _ (g : List ℕ) (at sr : ℕ) (m : Memory) (op : ℕ) where
 
   tas-made : Makes (from Byte) (eff.updates g at sr m op (plus at 2) Byte (λ v. with_bit 7 true v)) (l4.tas g at sr m op)
   unfolding l4.tas
-  tas-made = updating-made at sr m g (plus at 2) op Byte λ v. result (move_codes Byte v sr) (with_bit 7 true v)
+  tas-made = updating-made at sr m g (plus at 2) op Byte λ v. updated (move_codes Byte v sr) (with_bit 7 true v)
 
   multiply_made : Makes (word_at (plus at 2) ++ operand_at g m (plus at 4) op Long) nothing (l4.mul_l g at sr m op)
   unfolding l4.mul_l done
@@ -385,7 +379,7 @@ module _ (g : List ℕ) (at sr : ℕ) (m : Memory) (op : ℕ) where
   to-place add z n =
       updating-made at sr m g (plus at 2) op z λ v.
       let r : Sum = sum_or_difference add z n v false in
-      result (sum_codes r) r.value
+      updated (sum_codes r) r.value
 
   to_data : (add : Bool) → Makes (from (any_size op)) nothing (l9.add_to_data add g at m op)
   unfolding l9.add_to_data done
@@ -441,12 +435,12 @@ module _ (g : List ℕ) (at sr : ℕ) (m : Memory) (op : ℕ) where
   unfolding l6.displacement l6.displacement_bytes load
   missing-displacement pc low = by (eqb low 0) (eqb low 255)
     where
-      extended : (x : Access) → missing (l6.extended (found (storage_of m) Word x)) ≡ first_fault x Taken
-      extended (Here at) = refl
-      extended (Not x) = refl
+      extended : (x : Result ℕ Fault) → missing (l6.extended (found (storage_of m) Word x)) ≡ first_fault x (Ok tt)
+      extended (Ok at) = refl
+      extended (Err x) = refl
 
       by : (a b : Bool)
-          → missing (cond a (l6.extended (found (storage_of m) Word (access m pc 2))) (cond b (found (storage_of m) Long (access m pc 4)) (Value (sign_extended Byte low))))
+          → missing (cond a (l6.extended (found (storage_of m) Word (access m pc 2))) (cond b (found (storage_of m) Long (access m pc 4)) (Ok (sign_extended Byte low))))
           ≡ access_all m (words pc (cond a 2 (cond b 4 0)))
       by true b = extended (access m pc 2)
       by false true = missing-found m Long (access m pc 4)
@@ -511,7 +505,7 @@ module _ (g : List ℕ) (at sr : ℕ) (m : Memory) (op : ℕ) where
   logic-to_place l =
       updating-made at sr m g (plus at 2) op (any_size op) λ v.
       let r : ℕ = logic l v (data_of g (upper op)) in
-      result (move_codes (any_size op) r sr) r
+      updated (move_codes (any_size op) r sr) r
 
   pub line_b-made : (n : ℕ) → Makes (acc.reads_b g at m op n) (eff.effects_b g at sr m op n) (lb.line_b n g at sr m op)
   unfolding acc.reads_b eff.effects_b lb.line_b
@@ -571,10 +565,10 @@ module _ (g : List ℕ) (at sr : ℕ) (m : Memory) (op : ℕ) where
       by (suc (suc zero)) = illegal-does at sr
       by (suc (suc (suc i))) = illegal-does at sr
 
-  debug_ends_lem : (pc : ℕ) (l : List Wanted) (got : Reached) (size skipped : ℕ) → unreached got ≡ access_all m l → Makes l nothing (lf.debug_ends sr pc got size skipped)
-  debug_ends_lem pc l (At (Value a)) size skipped e = rw (← e) (jump-does _)
-  debug_ends_lem pc l (At (NoValue x)) size skipped e = rw (← e)
-  debug_ends_lem pc l NoAddress size skipped e = rw (← e) (jump-does _)
+  debug_ends_lem : (pc : ℕ) (l : List Wanted) (got : Option (Result ℕ Fault)) (size skipped : ℕ) → unreached got ≡ access_all m l → Makes l nothing (lf.debug_ends sr pc got size skipped)
+  debug_ends_lem pc l (Some (Ok a)) size skipped e = rw (← e) (jump-does _)
+  debug_ends_lem pc l (Some (Err x)) size skipped e = rw (← e)
+  debug_ends_lem pc l None size skipped e = rw (← e) (jump-does _)
 
   write_debug : Makes address-words nothing (lf.wdebug g at sr m op)
   unfolding lf.wdebug

@@ -1,7 +1,9 @@
 -- Every instruction's numbers are longs, line by line, where the registers and the word's address are, MASK and MACSR are, and memory
 -- holds bytes. Assumes nothing.
+use Rattle.manual.specs.declared.Fault.{Fault}
+use Rattle.manual.specs.declared.ControlRegister.{ControlRegister}
 use Prim.Native.Nat.{ℕ, ◌+◌, ◌*◌, ◌%◌, ◌<◌}
-use Rattle.std.specs.Prelude.{Bool, cond, List, eqb, ltb, get_or}
+use Rattle.std.specs.Prelude.{Bool, cond, List, eqb, ltb, get_or, Option, Ok, Err, Some, None}
 use Rattle.std.proofs.Math.Bool.{true, false}
 use native.Mathlib.Omega.{arith}
 use Rattle.std.specs.Int.Bits.{and_le_l}
@@ -19,14 +21,8 @@ use Rattle.manual.specs.declared.Write.{Write}
 use Rattle.manual.specs.declared.Source.{Source}
 use Rattle.manual.specs.declared.Destination.{Destination}
 use Rattle.manual.specs.declared.Quotient.{Quotient}
-use Rattle.manual.specs.declared.Got.{Got}
-use Rattle.manual.specs.declared.Got.TheVariants.{Value, Fault as NoValue}
-use Rattle.manual.specs.declared.Reached.{Reached}
-use Rattle.manual.specs.declared.Reached.TheVariants.{At, NoAddress}
 use Rattle.manual.specs.declared.Action.{Action}
 use Rattle.manual.specs.declared.Action.TheVariants.{Nothing, CopyAcc, ClearAcc, Return, Status, Stop, PushStatus, Halt, SetOther, MoveControl}
-use Rattle.manual.specs.declared.Named.{Named}
-use Rattle.manual.specs.declared.Named.TheVariants.{Control, Unknown}
 use Rattle.manual.specs.declared.Change.{Change}
 use Rattle.manual.specs.Word.{plus, numbers, merged}
 use Rattle.manual.specs.Bits.{bit_of}
@@ -41,7 +37,7 @@ use Rattle.manual.specs.Registers.{data_of, address_of, no_write, write_data, wr
 use Rattle.manual.specs.Memory.{Memory, storage_of, load}
 use Rattle.manual.specs.Address.{operand, operand_of, fetch, value, source, control, destination, destination_of}
 use Rattle.manual.specs.Differences.{any_size}
-use Rattle.manual.specs.Change.{done, acting, illegal, privilege, jump, reading, reaching, put_to, Result, updating}
+use Rattle.manual.specs.Change.{done, acting, illegal, privilege, jump, reading, reaching, put_to, Updated, updating}
 use Rattle.instructions.specs.Rows.{first_row, place_in, row_of}
 use Rattle.instructions.specs.Line0 as l0
 use Rattle.instructions.specs.Moves as moves
@@ -126,7 +122,7 @@ module _ (g : List ℕ) (all : Longs g) (at : ℕ) (here : IsLong at) (sr : ℕ)
     place-fits f h = fit.reading-fits (numbers z) (fetch g m to.place z) f (fit.fetch-below m bytes-in g all to.place z) h
 
     -- what is made of its value goes back to it
-    updating-fits : (f : ℕ → Result) → ((v : ℕ) → v < numbers z → IsLong (f v).value) → FitsLong (updating g m pc op z f)
+    updating-fits : (f : ℕ → Updated) → ((v : ℕ) → v < numbers z → IsLong (f v).value) → FitsLong (updating g m pc op z f)
     updating-fits f h = place-fits _ (λ v l. put_to-fits _ _ (h v l))
 
   -- ---- line 0
@@ -291,9 +287,9 @@ module _ (g : List ℕ) (all : Longs g) (at : ℕ) (here : IsLong at) (sr : ℕ)
   unfolding l4.movec
   movec-fits writes = load_fits (plus at 2) Word _ (λ w h. allowed _ (by (control_register (control_field w)) (high_four w)))
     where
-      by : (x : Named) (n : ℕ) → FitsLong (l4.naming sr at x λ c. acting sr (plus (plus at 2) 2) no_write (MoveControl writes c n))
-      by (Control c) n = act-alone _ (MoveControl writes c n) (plus-below _ 2) (omega arith)
-      by Unknown n = illegal-here
+      by : (x : Option ControlRegister) (n : ℕ) → FitsLong (l4.naming sr at x λ c. acting sr (plus (plus at 2) 2) no_write (MoveControl writes c n))
+      by (Some c) n = act-alone _ (MoveControl writes c n) (plus-below _ 2) (omega arith)
+      by None n = illegal-here
 
   from_usp : (other : ℕ) → IsLong other → FitsLong (l4.move_from_usp at sr other op)
   unfolding l4.move_from_usp
@@ -552,9 +548,9 @@ module _ (g : List ℕ) (all : Longs g) (at : ℕ) (here : IsLong at) (sr : ℕ)
   jump-on next d = jump_fits sr (plus next d) (plus-below next d)
 
   -- a displacement was read, or not
-  any-read : (got : Got) (f : ℕ → Change) → ((v : ℕ) → FitsLong (f v)) → FitsLong (reading got f)
-  any-read (Value v) f h = h v
-  any-read (NoValue x) f h = fit.refused-fits x
+  any-read : (got : Result ℕ Fault) (f : ℕ → Change) → ((v : ℕ) → FitsLong (f v)) → FitsLong (reading got f)
+  any-read (Ok v) f h = h v
+  any-read (Err x) f h = fit.refused-fits x
 
   bra-fits : FitsLong (l6.bra at sr m op)
   unfolding l6.bra
@@ -657,10 +653,10 @@ module _ (g : List ℕ) (all : Longs g) (at : ℕ) (here : IsLong at) (sr : ℕ)
   unfolding le.line_e
   line_e-fits n = row_fits (shift_fits true & shift_fits false & illegal-here & end) (place_in (first_row 0xE) n)
 
-  debug_ends_lem : (pc : ℕ) (got : Reached) (size skipped : ℕ) → FitsLong (lf.debug_ends sr pc got size skipped)
-  debug_ends_lem pc (At (Value a)) size skipped = jump-on _ skipped
-  debug_ends_lem pc (At (NoValue x)) size skipped = fit.refused-fits x
-  debug_ends_lem pc NoAddress size skipped = jump-on pc skipped
+  debug_ends_lem : (pc : ℕ) (got : Option (Result ℕ Fault)) (size skipped : ℕ) → FitsLong (lf.debug_ends sr pc got size skipped)
+  debug_ends_lem pc (Some (Ok a)) size skipped = jump-on _ skipped
+  debug_ends_lem pc (Some (Err x)) size skipped = fit.refused-fits x
+  debug_ends_lem pc None size skipped = jump-on pc skipped
 
   write_debug : FitsLong (lf.wdebug g at sr m op)
   unfolding lf.wdebug

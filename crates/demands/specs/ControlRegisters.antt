@@ -4,17 +4,15 @@
 -- supervisor's one that names neither CACR nor VBR vector 4, each with the word's program counter. Else the general register goes to the control
 -- register or comes from it, the program counter goes on by 4, and nothing else changes: no condition code, no stack pointer, no byte.
 -- CACR keeps all 32 bits that are written to it, VBR bits 31 to 20. Assumes nothing.
-use Rattle.std.specs.Prelude.{ℕ, ◌+◌, ◌*◌, ◌/◌, ◌≡◌, refl, Bool, true, false, cond, List}
+use Rattle.std.specs.Prelude.{ℕ, ◌+◌, ◌*◌, ◌/◌, ◌≡◌, refl, Bool, true, false, cond, List, Some, None}
 use Rattle.std.proofs.Common.{ap, ◌∙◌, arith, ne_eqb}
 use Rattle.manual.specs.declared.Cpu.{Cpu}
 use Rattle.manual.specs.declared.Emac.{Emac}
 use Rattle.manual.specs.declared.Size.TheVariants.{Word}
-use Rattle.manual.specs.declared.Level.TheVariants.{Kept}
 use Rattle.manual.specs.declared.Reply.TheVariants.{NotInside}
 use Rattle.manual.specs.declared.Action.TheVariants.{Enter, MoveControl}
 use Rattle.manual.specs.declared.ControlRegister.{ControlRegister}
 use Rattle.manual.specs.declared.ControlRegister.TheVariants.{Cacr, Vbr}
-use Rattle.manual.specs.declared.Named.TheVariants.{Control, Unknown}
 use Rattle.manual.specs.declared.Fault.TheVariants.{Outside as Out}
 use Rattle.manual.specs.declared.Change.{Change}
 use Rattle.manual.specs.Word.{plus}
@@ -52,11 +50,11 @@ module _ (s : Cpu) (l : Lent) where
 
   pub record MovecStep (writes : Bool) : Type 0 where
     pub not-inside : Outside m (plus s.pc 2) 2 → step s l ≡ unchanged s NotInside m
-    pub by_user : Inside m (plus s.pc 2) 2 → supervisor s.sr ≡ false → step s l ≡ entered s s Kept 8 s.pc m
+    pub by_user : Inside m (plus s.pc 2) 2 → supervisor s.sr ≡ false → step s l ≡ entered s s None 8 s.pc m
     pub of_cacr : Inside m (plus s.pc 2) 2 → supervisor s.sr ≡ true → control_field second ≡ 0x002 → step s l ≡ completed (moved writes Cacr) 0 l.storage
     pub of_vbr : Inside m (plus s.pc 2) 2 → supervisor s.sr ≡ true → control_field second ≡ 0x801 → step s l ≡ completed (moved writes Vbr) 0 l.storage
     pub of_others : Inside m (plus s.pc 2) 2 → supervisor s.sr ≡ true → (control_field second ≡ 0x002 → ⊥) → (control_field second ≡ 0x801 → ⊥)
-        → step s l ≡ entered s s Kept 4 s.pc m
+        → step s l ≡ entered s s None 4 s.pc m
 
 pub record ControlRegisters : Type 0 where
   pub movec-step : (s : Cpu) (l : Lent) → Fetches s l → (writes : Bool) → number_at (memory_of l) s.pc Word ≡ movec_word writes → MovecStep s l writes
@@ -76,9 +74,9 @@ unfolding instruction line4 place_in
 movec-word g at sr other e m true = rw (movec-row true)
 movec-word g at sr other e m false = rw (movec-row false)
 
-enters : (s : Cpu) (vector : ℕ) (m : Memory) → perform s (enter s.sr vector s.pc) m ≡ entered s s Kept vector s.pc m
+enters : (s : Cpu) (vector : ℕ) (m : Memory) → perform s (enter s.sr vector s.pc) m ≡ entered s s None vector s.pc m
 unfolding enter enter_after
-enters s vector m = perform-acting s s.pc (Enter vector s.pc) m ∙ ap (λ (t : Cpu). entered s t Kept vector s.pc m) (same-pc s)
+enters s vector m = perform-acting s s.pc (Enter vector s.pc) m ∙ ap (λ (t : Cpu). entered s t None vector s.pc m) (same-pc s)
 
 next_word : (at : ℕ) → plus (plus at 2) 2 ≡ plus at 4
 unfolding plus
@@ -100,30 +98,30 @@ module _ (s : Cpu) (l : Lent) (f : Fetches s l) (writes : Bool) (w : number_at (
   not-inside o = on_word _ (rw (load-not (memory_of l) (plus s.pc 2) Word Out o)) ∙ perform-refused s Out (memory_of l)
 
   module _ (i : Inside (memory_of l) (plus s.pc 2) 2) where
-    by_user : supervisor s.sr ≡ false → step s l ≡ entered s s Kept 8 s.pc (memory_of l)
+    by_user : supervisor s.sr ≡ false → step s l ≡ entered s s None 8 s.pc (memory_of l)
     unfolding movec privilege
     by_user u = on_word _ (rw (load_inside (memory_of l) (plus s.pc 2) Word i, u)) ∙ enters s 8 (memory_of l)
 
     module _ (u : supervisor s.sr ≡ true) where
-      named : (c : ControlRegister) → control_register (control_field (second s l)) ≡ Control c → step s l ≡ completed (moved s l writes c) 0 l.storage
+      named : (c : ControlRegister) → control_register (control_field (second s l)) ≡ Some c → step s l ≡ completed (moved s l writes c) 0 l.storage
       unfolding movec
       named c e =
           on_word _ (rw (load_inside (memory_of l) (plus s.pc 2) Word i, u, e, next_word s.pc))
           ∙ perform-acting s (plus s.pc 4) (MoveControl writes c (high_four (second s l))) (memory_of l)
 
-      unknown : control_register (control_field (second s l)) ≡ Unknown → step s l ≡ entered s s Kept 4 s.pc (memory_of l)
+      unknown : control_register (control_field (second s l)) ≡ None → step s l ≡ entered s s None 4 s.pc (memory_of l)
       unfolding movec illegal
       unknown e = on_word _ (rw (load_inside (memory_of l) (plus s.pc 2) Word i, u, e)) ∙ enters s 4 (memory_of l)
 
-is-cacr : (n : ℕ) → n ≡ 0x002 → control_register n ≡ Control Cacr
+is-cacr : (n : ℕ) → n ≡ 0x002 → control_register n ≡ Some Cacr
 unfolding control_register
 is-cacr n e = rw e
 
-is-vbr : (n : ℕ) → n ≡ 0x801 → control_register n ≡ Control Vbr
+is-vbr : (n : ℕ) → n ≡ 0x801 → control_register n ≡ Some Vbr
 unfolding control_register
 is-vbr n e = rw e
 
-is-unknown : (n : ℕ) → (n ≡ 0x002 → ⊥) → (n ≡ 0x801 → ⊥) → control_register n ≡ Unknown
+is-unknown : (n : ℕ) → (n ≡ 0x002 → ⊥) → (n ≡ 0x801 → ⊥) → control_register n ≡ None
 unfolding control_register
 is-unknown n p q = rw (ne_eqb _ _ p, ne_eqb _ _ q)
 

@@ -1,7 +1,8 @@
 -- What a change that has an effect does where it is performed: its accesses are those of the effect, and done, its vector and its stores
 -- are the effect's. Assumes nothing.
+use Rattle.manual.specs.declared.Fault.{Fault}
 use Prim.Native.Nat.{ℕ, zero, suc, ◌+◌, ◌/◌, ◌%◌, ◌^◌, ◌<◌}
-use Rattle.std.specs.Prelude.{◌≡◌, refl, Bool, true, false, cond, eqb, length}
+use Rattle.std.specs.Prelude.{◌≡◌, refl, Bool, true, false, cond, eqb, length, Result, Ok, Err, None}
 use Rattle.std.proofs.Common.{sym, ◌∙◌, arith}
 use Rattle.std.proofs.Math.Path.{ap, subst}
 use Rattle.std.proofs.lemmas.Bool.{false≢true}
@@ -9,12 +10,7 @@ use mathlib.Core.List.{List, ◌∷◌, ◌++◌, append-nil}
 use Rattle.manual.specs.declared.Cpu.{Cpu}
 use Rattle.manual.specs.declared.Size.{Size}
 use Rattle.manual.specs.declared.Size.TheVariants.{Long}
-use Rattle.manual.specs.declared.Access.{Access}
-use Rattle.manual.specs.declared.Access.TheVariants.{Here, Not}
-use Rattle.manual.specs.declared.Stored.{Stored}
-use Rattle.manual.specs.declared.Stored.TheVariants.{Done as Taken, Fault as NotTaken}
 use Rattle.manual.specs.declared.Write.{Write}
-use Rattle.manual.specs.declared.Level.TheVariants.{Kept}
 use Rattle.manual.specs.declared.Action.{Action}
 use Rattle.manual.specs.declared.Action.TheVariants.{Nothing, Store, StoreMany, LoadMany, Enter, Return, Status, Stop, PushStatus, Halt, SetOther, Accumulate, SetAcc, SetExt, SetMacsr, SetMask, CopyAcc, ClearAcc, MoveControl, Refuse}
 use Rattle.manual.specs.declared.Change.{Change}
@@ -45,7 +41,7 @@ EntersBy s m o (stores a z v) = Unit {0}
 EntersBy s m o pushes_status = Unit {0}
 EntersBy s m o (stores_many regs a) = Unit {0}
 EntersBy s m o (loads_many regs a) = Unit {0}
-EntersBy s m o (enters w vector pc) = o ≡ entered s (handed w pc s) Kept vector pc m
+EntersBy s m o (enters w vector pc) = o ≡ entered s (handed w pc s) None vector pc m
 EntersBy s m o returns = Unit {0}
 
 -- the outcome is that of an effect on the state s and the memory m
@@ -103,24 +99,24 @@ quiet-act given s m (Refuse n) h = absurd (false≢true h)
 
 -- ---- what is done where memory took it
 
-was_taken : (given : Cpu) (m : Memory) (x : Stored) (o : Outcome) → numbered (taking given m x o) ≡ 0 → x ≡ Taken
+was_taken : (given : Cpu) (m : Memory) (x : Result Unit Fault) (o : Outcome) → numbered (taking given m x o) ≡ 0 → x ≡ (Ok tt)
 unfolding refusal
-was_taken given m Taken o h = refl
-was_taken given m (NotTaken f) o h = absurd (fault_number f h)
+was_taken given m (Ok tt) o h = refl
+was_taken given m (Err f) o h = absurd (fault_number f h)
 
-taken_so : (given : Cpu) (m : Memory) (x : Stored) (o : Outcome) → numbered (taking given m x o) ≡ 0 → taking given m x o ≡ o
+taken_so : (given : Cpu) (m : Memory) (x : Result Unit Fault) (o : Outcome) → numbered (taking given m x o) ≡ 0 → taking given m x o ≡ o
 taken_so given m x o h = rw (was_taken given m x o h)
 
 -- ---- stores
 
 -- a store that memory takes lies at its address
-taken-stored : (m : Memory) (a : ℕ) (z : Size) (v : ℕ) → storing m a z ≡ Taken → stored m a z v ≡ store_at (storage_of m) a (bytes z) v
+taken-stored : (m : Memory) (a : ℕ) (z : Size) (v : ℕ) → storing m a z ≡ (Ok tt) → stored m a z v ≡ store_at (storage_of m) a (bytes z) v
 unfolding storing stored
 taken-stored m a z v = by (access m a (bytes z)) refl
   where
-    by : (x : Access) → access m a (bytes z) ≡ x → taken x ≡ Taken → stored_in (storage_of m) z v x ≡ store_at (storage_of m) a (bytes z) v
-    by (Here p) i h = ap (λ (q : ℕ). store_at (storage_of m) q (bytes z) v) (here-is m a (bytes z) p i).0
-    by (Not x) i h = absurd (taken_or_not x h)
+    by : (x : Result ℕ Fault) → access m a (bytes z) ≡ x → taken x ≡ (Ok tt) → stored_in (storage_of m) z v x ≡ store_at (storage_of m) a (bytes z) v
+    by (Ok p) i h = ap (λ (q : ℕ). store_at (storage_of m) q (bytes z) v) (here-is m a (bytes z) p i).0
+    by (Err x) i h = absurd (taken_or_not x h)
 
 storing-is : (m : Memory) (a : ℕ) (z : Size) → storing m a z ≡ taken (access m a (bytes z))
 unfolding storing
@@ -150,11 +146,11 @@ many-same zero m m' regs a e = refl
 many-same (suc left) m m' regs a e =
     rw (access-same m m' a 4 e, many-same left m m' (regs / 2) (plus a 4) e, many-same left m m' (regs / 2) a e)
 
-pub first_taken : (x : Access) (rest : Stored) → first_fault x rest ≡ Taken → (taken x ≡ Taken) × (rest ≡ Taken)
-first_taken (Here p) rest h = (refl, h)
-first_taken (Not x) rest h = absurd (taken_or_not x h)
+pub first_taken : (x : Result ℕ Fault) (rest : Result Unit Fault) → first_fault x rest ≡ (Ok tt) → (taken x ≡ (Ok tt)) × (rest ≡ (Ok tt))
+first_taken (Ok p) rest h = (refl, h)
+first_taken (Err x) rest h = absurd (taken_or_not x h)
 
-many-stored : (left : ℕ) (g : List ℕ) (n regs a : ℕ) (m : Memory) → access_many left m regs a ≡ Taken
+many-stored : (left : ℕ) (g : List ℕ) (n regs a : ℕ) (m : Memory) → access_many left m regs a ≡ (Ok tt)
     → stored_many left g n regs a m ≡ stored_all (storage_of m) (many_puts left g n regs a)
 unfolding access_many stored_many many_puts
 many-stored zero g n regs a m h = refl
@@ -171,15 +167,15 @@ many-stored (suc left) g n regs a m h =
     rest = many_puts left g (n + 1) (regs / 2) (plus a 4)
 
     Rest : Memory → Type 0
-    Rest m = access_many left m (regs / 2) (plus a 4) ≡ Taken → stored_many left g (n + 1) (regs / 2) (plus a 4) m ≡ stored_all (storage_of m) rest
+    Rest m = access_many left m (regs / 2) (plus a 4) ≡ (Ok tt) → stored_many left g (n + 1) (regs / 2) (plus a 4) m ≡ stored_all (storage_of m) rest
 
     by : (b : Bool) → ((m : Memory) → Rest m)
-        → (access_many left m (regs / 2) a ≡ Taken → stored_many left g (n + 1) (regs / 2) a m ≡ stored_all (storage_of m) (many_puts left g (n + 1) (regs / 2) a))
-        → cond b (first_fault (access m a 4) (access_many left m (regs / 2) (plus a 4))) (access_many left m (regs / 2) a) ≡ Taken
+        → (access_many left m (regs / 2) a ≡ (Ok tt) → stored_many left g (n + 1) (regs / 2) a m ≡ stored_all (storage_of m) (many_puts left g (n + 1) (regs / 2) a))
+        → cond b (first_fault (access m a 4) (access_many left m (regs / 2) (plus a 4))) (access_many left m (regs / 2) a) ≡ (Ok tt)
         → cond b (stored_many left g (n + 1) (regs / 2) (plus a 4) m') (stored_many left g (n + 1) (regs / 2) a m)
         ≡ stored_all (storage_of m) (cond b (put a 4 v ∷ rest) (many_puts left g (n + 1) (regs / 2) a))
     by true p q h =
-        let both : (taken (access m a 4) ≡ Taken) × (access_many left m (regs / 2) (plus a 4) ≡ Taken) = first_taken (access m a 4) _ h in
+        let both : (taken (access m a 4) ≡ (Ok tt)) × (access_many left m (regs / 2) (plus a 4) ≡ (Ok tt)) = first_taken (access m a 4) _ h in
         p m' (many-same left m m' (regs / 2) (plus a 4) (length_stored m a Long v) ∙ both.1)
         ∙ ap (λ (b : Storage). stored_all b rest) (taken-stored m a Long v (storing-is m a Long ∙ both.0))
     by false p q h = q h
@@ -199,7 +195,7 @@ many-places (suc left) g n regs a = by (eqb (regs % 2) 1) (many-places left g (n
 
 -- ---- an entry: from the registers after the operand's move
 
-pub entering : (s : Cpu) (w : Write) (vector pc : ℕ) (m : Memory) → perform s (enter_after w s.sr vector pc) m ≡ entered s (handed w pc s) Kept vector pc m
+pub entering : (s : Cpu) (w : Write) (vector pc : ℕ) (m : Memory) → perform s (enter_after w s.sr vector pc) m ≡ entered s (handed w pc s) None vector pc m
 unfolding perform enter_after acting applied no_write written
 entering s w vector pc m = rw (coded_kept s.sr)
 
@@ -209,10 +205,10 @@ entering s w vector pc m = rw (coded_kept s.sr)
 abbrev Says : ℕ → Outcome → Type 0
 Says v o = numbered o ≡ 0 → o.stepped.vector ≡ v
 
-entered-says : (given s : Cpu) (vector pc : ℕ) (m : Memory) → Says vector (entered given s Kept vector pc m)
+entered-says : (given s : Cpu) (vector pc : ℕ) (m : Memory) → Says vector (entered given s None vector pc m)
 unfolding entered refusal
 entered-says given s vector pc m =
-    let sp : ℕ = address_of (set_sr (handler_sr Kept s.sr) s).r 7 in
+    let sp : ℕ = address_of (set_sr (handler_sr None s.sr) s).r 7 in
     accessing-all (Says vector) given m (λ x h. absurd (fault_number x h)) (access m (pc_place sp) 4) _ λ high.
     accessing-all (Says vector) given m (λ x h. absurd (fault_number x h)) (access m (frame_place sp) 4) _ λ low.
     accessing-all (Says vector) given m (λ x h. absurd (fault_number x h)) (access m (vector_place s.vbr vector) 4) _ λ table.
@@ -266,12 +262,12 @@ module _ (s : Cpu) (m : Memory) where
         enters-by = tt;
       }
 
-  enter-performs : (w : Write) (vector pc : ℕ) → Vector s.pc w vector pc → Performs s m (enters w vector pc) (entered s (handed w pc s) Kept vector pc m)
+  enter-performs : (w : Write) (vector pc : ℕ) → Vector s.pc w vector pc → Performs s m (enters w vector pc) (entered s (handed w pc s) None vector pc m)
   unfolding with_parts
   enter-performs w vector pc v = record {
-    answers = replies.entered-answers s (handed w pc s) Kept vector pc m;
+    answers = replies.entered-answers s (handed w pc s) None vector pc m;
     says = entered-says s (handed w pc s) vector pc m;
-    stores_so = λ h. (entry.went s (handed w pc s) Kept vector pc m (done-is _ h)).storage;
+    stores_so = λ h. (entry.went s (handed w pc s) None vector pc m (done-is _ h)).storage;
     lawful = v;
     enters-by = refl;
   }

@@ -3,18 +3,16 @@
 --
 -- The effects stand in tables, line by line and row by row in the order of the rows, as the reads do in Accesses. Of an effect it is said
 -- which numbers it stores where, in order, and which accesses it makes. Assumes nothing.
-use Rattle.std.specs.Prelude.{ℕ, zero, suc, ◌+◌, ◌/◌, ◌%◌, ◌<◌, ◌^◌, Bool, true, false, cond, List, [], ◌∷◌, ◌++◌, eqb, ltb, get_or}
+use Rattle.manual.specs.declared.Fault.{Fault}
+use Rattle.std.specs.Prelude.{ℕ, zero, suc, ◌+◌, ◌/◌, ◌%◌, ◌<◌, ◌^◌, Bool, true, false, cond, List, [], ◌∷◌, ◌++◌, eqb, ltb, get_or, Result, Option, Ok, Err, Some, None}
 use Rattle.manual.specs.declared.Cpu.{Cpu}
 use Rattle.manual.specs.declared.Size.{Size}
 use Rattle.manual.specs.declared.Size.TheVariants.{Byte, Word, Long}
 use Rattle.manual.specs.declared.Place.{Place}
-use Rattle.manual.specs.declared.Place.TheVariants.{D, A, M, I, Fault as NoPlace}
-use Rattle.manual.specs.declared.Reached.{Reached}
-use Rattle.manual.specs.declared.Reached.TheVariants.{At, NoAddress}
+use Rattle.manual.specs.declared.Place.TheVariants.{D, A, M, I}
 use Rattle.manual.specs.declared.Write.{Write}
 use Rattle.manual.specs.declared.Logic.{Logic}
 use Rattle.manual.specs.declared.Logic.TheVariants.{And, Or, Eor}
-use Rattle.manual.specs.declared.Level.TheVariants.{Kept}
 use Rattle.manual.specs.Word.{bytes, plus, minus, sign_extended}
 use Rattle.manual.specs.Bits.{logic, with_bit, changed_bit}
 use Rattle.manual.specs.Fields.{bits, line, upper, upper_mode, mode, register, size_field, low_byte, low_four, bit_operator, control_field}
@@ -48,12 +46,12 @@ pub data Effect : Type 0 where
 -- ---- the parts
 
 -- a number of a size goes to a place: it is stored where the place is in memory
-abbrev pub to_place : Place → Size → ℕ → Effect
-to_place (D r) z v = nothing
-to_place (A r) z v = nothing
-to_place (M a) z v = stores a z v
-to_place (I i) z v = nothing
-to_place (NoPlace x) z v = nothing
+abbrev pub to_place : Result Place Fault → Size → ℕ → Effect
+to_place (Ok (D r)) z v = nothing
+to_place (Ok (A r)) z v = nothing
+to_place (Ok (M a)) z v = stores a z v
+to_place (Ok (I i)) z v = nothing
+to_place (Err x) z v = nothing
 
 -- a word at `at` that is illegal; and one that the supervisor alone may use
 abbrev pub illegal_word : ℕ → Effect
@@ -63,9 +61,9 @@ abbrev pub privileged : ℕ → ℕ → Effect → Effect
 privileged at sr e = cond (supervisor sr) e (enters no_write 8 at)
 
 -- what is done with the address of a control mode; a mode that has none is illegal
-abbrev pub at_address : ℕ → Reached → (ℕ → Effect) → Effect
-at_address at (At got) f = f (number_in got)
-at_address at NoAddress f = illegal_word at
+abbrev pub at_address : ℕ → Option (Result ℕ Fault) → (ℕ → Effect) → Effect
+at_address at (Some got) f = f (number_in got)
+at_address at None f = illegal_word at
 
 -- ---- the effect of a word op at `at`, by its row
 
@@ -410,7 +408,7 @@ many_puts (suc left) g n regs a =
 -- A7 with the handler's status register
 abbrev pub frame_puts : Cpu → ℕ → ℕ → List Put
 frame_puts s vector pc =
-    let sp : ℕ = address_of (set_sr (handler_sr Kept s.sr) s).r 7 in
+    let sp : ℕ = address_of (set_sr (handler_sr None s.sr) s).r 7 in
     put (pc_place sp) 4 pc ∷ put (frame_place sp) 4 (frame_long sp vector s.sr) ∷ []
 
 -- s is the state before the step

@@ -1,6 +1,6 @@
 -- What an entry leaves, and what a return then finds: the parts of `entered` and `left`, in plain variables.
 -- Assumes nothing.
-use Rattle.std.specs.Prelude.{ℕ, ◌+◌, ◌*◌, ◌/◌, ◌%◌, ◌^◌, ◌≤◌, ◌<◌, ◌≡◌, Bool, cond, not, ◌&&◌, ◌⊎◌, length, get_or}
+use Rattle.std.specs.Prelude.{ℕ, ◌+◌, ◌*◌, ◌/◌, ◌%◌, ◌^◌, ◌≤◌, ◌<◌, ◌≡◌, Bool, cond, not, ◌&&◌, ◌⊎◌, length, get_or, Option, Some, None}
 use Rattle.std.proofs.Math.Path.{refl}
 use Rattle.std.proofs.Common.{sym, ap, ◌∙◌, eq-eqb, le-ltb, lt-ltb}
 use Rattle.std.proofs.Math.Bool.{true, false}
@@ -11,8 +11,6 @@ use native.Mathlib.Omega.{arith}
 use Rattle.std.proofs.Math.ListN.{length-set}
 use Rattle.std.proofs.Math.Seq.{get_or-set_same}
 use Rattle.manual.specs.declared.Cpu.{Cpu}
-use Rattle.manual.specs.declared.Level.{Level}
-use Rattle.manual.specs.declared.Level.TheVariants.{Kept, To}
 use Rattle.manual.specs.declared.Reply.{Reply}
 use Rattle.manual.specs.declared.Reply.TheVariants.{Done, OutOfRange, Masked}
 use Rattle.manual.specs.declared.Size.TheVariants.{Long}
@@ -109,12 +107,12 @@ s_set v = omega (arith, with_parts_lem 13 v true)
 under-mask : (v level : ℕ) → with_mask v (level % 8 * 0x100) / 0x2000 % 2 ≡ v / 0x2000 % 2
 under-mask v level = omega arith
 
-s_handling : (level : Level) (sr : ℕ) → handler_sr level sr / 0x2000 % 2 ≡ 1
+s_handling : (level : Option ℕ) (sr : ℕ) → handler_sr level sr / 0x2000 % 2 ≡ 1
 unfolding handler_sr
-s_handling Kept sr = s_set _
-s_handling (To level) sr = under-mask _ level ∙ s_set _
+s_handling None sr = s_set _
+s_handling (Some level) sr = under-mask _ level ∙ s_set _
 
-pub handler-s : (level : Level) (sr : ℕ) → supervisor (status (handler_sr level sr)) ≡ true
+pub handler-s : (level : Option ℕ) (sr : ℕ) → supervisor (status (handler_sr level sr)) ≡ true
 handler-s level sr = s-status (handler_sr level sr) ∙ eq-eqb _ 1 (s_handling level sr)
 
 -- ---- the stack pointers after a new status register: in each other's place, or not
@@ -214,7 +212,7 @@ pub record Went (s : Cpu) (m : Memory) (vector pc : ℕ) (t : Cpu) (sp : ℕ) (o
   pub state : o.stepped.cpu ≡ handler_state t (frame_place sp) (value_at o.storage (vector_place s.vbr vector) 4)
   pub storage : o.storage ≡ frame_on (storage_of m) sp vector s.sr pc
 
-pub went : (given s : Cpu) (level : Level) (vector pc : ℕ) (m : Memory) → (entered given s level vector pc m).stepped.reply ≡ Done
+pub went : (given s : Cpu) (level : Option ℕ) (vector pc : ℕ) (m : Memory) → (entered given s level vector pc m).stepped.reply ≡ Done
     → let t : Cpu = set_sr (handler_sr level s.sr) s in
     Went s m vector pc t (address_of t.r 7) (entered given s level vector pc m)
 unfolding entered

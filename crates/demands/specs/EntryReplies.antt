@@ -1,17 +1,14 @@
 -- When an entry, a return, a push and a pop give each reply. Assumes nothing.
+use Rattle.manual.specs.declared.Fault.{Fault}
 use Prim.Native.Nat.{ℕ, ◌/◌, ◌%◌, ◌≤◌, ◌<◌}
-use Rattle.std.specs.Prelude.{◌≡◌, Bool, cond, ◌↔◌, ltb, leb}
+use Rattle.std.specs.Prelude.{◌≡◌, Bool, cond, ◌↔◌, ltb, leb, Result, Option, Ok, Err, Some, None}
 use Rattle.std.proofs.Math.Path.{refl}
 use Rattle.std.proofs.Common.{sym, ◌∙◌, inl, inr, arith}
 use Rattle.std.proofs.Math.Bool.{true, false}
 use mathlib.Core.List.{List, [], ◌∷◌}
 use Rattle.manual.specs.declared.Cpu.{Cpu}
-use Rattle.manual.specs.declared.Level.{Level}
-use Rattle.manual.specs.declared.Level.TheVariants.{Kept, To}
 use Rattle.manual.specs.declared.Size.TheVariants.{Long}
 use Rattle.manual.specs.declared.Reply.TheVariants.{OutOfRange, Masked}
-use Rattle.manual.specs.declared.Got.{Got}
-use Rattle.manual.specs.declared.Got.TheVariants.{Value, Fault as NoValue}
 use Rattle.manual.specs.Word.{minus}
 use Rattle.manual.specs.Registers.{address_of, with_address}
 use Rattle.manual.specs.Memory.{Memory, load, storing, stored}
@@ -26,11 +23,11 @@ use Rattle.demands.specs.Exact.{numbered, TooLong, Usable, Ready, LevelBelow8, L
 
 -- ---- entries and returns
 
-level-is : (level : Level) → (level_taken level ≡ true) ↔ LevelBelow8 level
-level-is Kept = (λ h. tt, λ h. refl)
-level-is (To level) = laws.iff_lt level 8
+level-is : (level : Option ℕ) → (level_taken level ≡ true) ↔ LevelBelow8 level
+level-is None = (λ h. tt, λ h. refl)
+level-is (Some level) = laws.iff_lt level 8
 
-module _ (s : Cpu) (l : Lent) (vector pc : ℕ) (level : Level) where
+module _ (s : Cpu) (l : Lent) (vector pc : ℕ) (level : Option ℕ) where
   abbrev entry : Outcome
   entry = entered s s level vector pc (memory_of l)
 
@@ -89,7 +86,7 @@ module _ (s : Cpu) (l : Lent) (vector pc : ℕ) (level : Level) where
 
 module _ (s : Cpu) (l : Lent) (vector level : ℕ) where
   abbrev taken : Outcome
-  taken = entered s s (To level) vector s.pc (memory_of l)
+  taken = entered s s (Some level) vector s.pc (memory_of l)
 
   abbrev tried : Outcome
   tried = cond (masked s.sr level) (unchanged s Masked (memory_of l)) taken
@@ -106,7 +103,7 @@ module _ (s : Cpu) (l : Lent) (vector level : ℕ) where
   asked-number = laws.number_cond (ltb level 8) tried (unchanged s OutOfRange (memory_of l))
 
   taken-never : (k : ℕ) → (0 ≡ k → ⊥) → (4 ≡ k → ⊥) → numbered taken ≡ k → ⊥
-  taken-never k n0 n4 e = entry-never s l vector s.pc (To level) k n0 n4 e
+  taken-never k n0 n4 e = entry-never s l vector s.pc (Some level) k n0 n4 e
 
   tried-never : (k : ℕ) → (0 ≡ k → ⊥) → (4 ≡ k → ⊥) → (7 ≡ k → ⊥) → numbered tried ≡ k → ⊥
   tried-never k n0 n4 n7 e = laws.neither (masked s.sr level) 7 (numbered taken) k n7 (taken-never k n0 n4) (sym tried-number ∙ e)
@@ -136,7 +133,7 @@ module _ (s : Cpu) (l : Lent) (vector level : ℕ) where
       back (inl l) h = omega (arith, h.0)
       back (inr l) h = omega (arith, h.1)
 
-  pub of_interrupt_4 : (numbered (interrupt s l vector level) ≡ 4) ↔ (Ready s l × ((level < 8) × (LetThrough s.sr level × SomeOutside (memory_of l) (entry_at s (To level) vector))))
+  pub of_interrupt_4 : (numbered (interrupt s l vector level) ≡ 4) ↔ (Ready s l × ((level < 8) × (LetThrough s.sr level × SomeOutside (memory_of l) (entry_at s (Some level) vector))))
   unfolding interrupt
   of_interrupt_4 =
       laws.iff_trans (laws.checked-on s l asked 4 (λ h. omega arith) (λ h. omega arith))
@@ -146,7 +143,7 @@ module _ (s : Cpu) (l : Lent) (vector level : ℕ) where
       (laws.iff_and (laws.iff_lt level 8)
       (rw tried-number
       (laws.iff_trans (laws.later 4 (numbered taken) 7 (λ h. omega arith) (masked s.sr level))
-      (laws.iff_and not-masked (laws.answers_4 (memory_of l) (entry_at s (To level) vector) taken (laws.entered-answers s s (To level) vector s.pc (memory_of l))))))))))
+      (laws.iff_and not-masked (laws.answers_4 (memory_of l) (entry_at s (Some level) vector) taken (laws.entered-answers s s (Some level) vector s.pc (memory_of l))))))))))
 
   pub of_interrupt_6 : (numbered (interrupt s l vector level) ≡ 6) ↔ (Ready s l × (8 ≤ level))
   unfolding interrupt
@@ -170,7 +167,7 @@ module _ (s : Cpu) (l : Lent) (vector level : ℕ) where
       (laws.iff_trans (laws.here 7 (numbered taken) (taken-never 7 (λ h. omega arith) (λ h. omega arith)) (masked s.sr level)) masked_when))
       (λ h. h.1, λ h. (omega (arith, h.0), h)))))))
 
-  pub of_interrupt_0 : (numbered (interrupt s l vector level) ≡ 0) ↔ (Ready s l × ((level < 8) × (LetThrough s.sr level × (SomeOutside (memory_of l) (entry_at s (To level) vector) → ⊥))))
+  pub of_interrupt_0 : (numbered (interrupt s l vector level) ≡ 0) ↔ (Ready s l × ((level < 8) × (LetThrough s.sr level × (SomeOutside (memory_of l) (entry_at s (Some level) vector) → ⊥))))
   unfolding interrupt
   of_interrupt_0 =
       laws.iff_trans (laws.checked-on s l asked 0 (λ h. omega arith) (λ h. omega arith))
@@ -180,7 +177,7 @@ module _ (s : Cpu) (l : Lent) (vector level : ℕ) where
       (laws.iff_and (laws.iff_lt level 8)
       (rw tried-number
       (laws.iff_trans (laws.later 0 (numbered taken) 7 (λ h. omega arith) (masked s.sr level))
-      (laws.iff_and not-masked (laws.answers_0 (memory_of l) (entry_at s (To level) vector) taken (laws.entered-answers s s (To level) vector s.pc (memory_of l))))))))))
+      (laws.iff_and not-masked (laws.answers_0 (memory_of l) (entry_at s (Some level) vector) taken (laws.entered-answers s s (Some level) vector s.pc (memory_of l))))))))))
 
   pub of_interrupt : OneOf (0 ∷ 1 ∷ 2 ∷ 4 ∷ 6 ∷ 7 ∷ []) (numbered (interrupt s l vector level))
   unfolding interrupt
@@ -191,7 +188,7 @@ module _ (s : Cpu) (l : Lent) (vector level : ℕ) where
       (laws.either_of ks (ltb level 8) _ 6
       (laws.same_of ks tried-number
       (laws.either_of ks (masked s.sr level) 7 _ (inr (inr (inr (inr (inr (inl refl))))))
-      (laws.answers_of (memory_of l) (entry_at s (To level) vector) taken (laws.entered-answers s s (To level) vector s.pc (memory_of l)) ks (inl refl) (inr (inr (inr (inl refl)))))))
+      (laws.answers_of (memory_of l) (entry_at s (Some level) vector) taken (laws.entered-answers s s (Some level) vector s.pc (memory_of l)) ks (inl refl) (inr (inr (inr (inl refl)))))))
       (inr (inr (inr (inr (inl refl)))))))
 
 -- 0, 1, 2 or 4: a call that makes accesses and tests nothing else
@@ -278,11 +275,11 @@ module _ (s : Cpu) (l : Lent) where
   unfolding pop32 refusal
   pop_number = by (is_done (first_refusal s l)) (load m top Long)
     where
-      by : (b : Bool) (x : Got)
+      by : (b : Bool) (x : Result ℕ Fault)
           → number_of (cond b (popped s top x) (not_popped s (first_refusal s l))).reply
           ≡ numbered (cond b (loading s m x λ v. completed s 0 l.storage) (unchanged s (first_refusal s l) m))
-      by true (Value v) = refl
-      by true (NoValue x) = refl
+      by true (Ok v) = refl
+      by true (Err x) = refl
       by false x = refl
 
   pop_answers : laws.Answers m (wanted top 4 ∷ []) popping

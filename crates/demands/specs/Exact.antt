@@ -12,11 +12,9 @@
 --   9  block or file: wrong length
 --
 -- Order: 9 when under five bytes, 8, 9, then 1, 2, 6, 7, 3, and then in the order the step comes to them. Assumes nothing.
-use Rattle.std.specs.Prelude.{ℕ, ◌+◌, ◌-◌, ◌*◌, ◌/◌, ◌%◌, ◌^◌, ◌≤◌, ◌<◌, ◌≡◌, true, false, List, [], ◌∷◌, ◌↔◌, ◌⊎◌, length, get_or}
+use Rattle.std.specs.Prelude.{ℕ, ◌+◌, ◌-◌, ◌*◌, ◌/◌, ◌%◌, ◌^◌, ◌≤◌, ◌<◌, ◌≡◌, true, false, List, [], ◌∷◌, ◌↔◌, ◌⊎◌, length, get_or, Option, Some, None}
 use Rattle.std.specs.Int.Bits.{bit_and}
 use Rattle.manual.specs.declared.Cpu.{Cpu}
-use Rattle.manual.specs.declared.Level.{Level}
-use Rattle.manual.specs.declared.Level.TheVariants.{Kept, To}
 use Rattle.manual.specs.declared.Size.TheVariants.{Word}
 use Rattle.manual.specs.Word.{minus}
 use Rattle.manual.specs.Registers.{address_of}
@@ -75,9 +73,9 @@ pub record Meanings : Type 0 where
   pub outside : (m : Memory) (a n : ℕ) → Outside m a n ↔ (length (storage_of m) < a + n)
 
 -- the level of an entry: the mask is kept, or it is set to a level, which is at most 7
-abbrev pub LevelBelow8 : Level → Type 0
-LevelBelow8 Kept = Unit {0}
-LevelBelow8 (To level) = level < 8
+abbrev pub LevelBelow8 : Option ℕ → Type 0
+LevelBelow8 None = Unit {0}
+LevelBelow8 (Some level) = level < 8
 
 -- the mask, SR bits 10 to 8, lets a level through: level 7 always, a lower one above the mask
 abbrev pub LetThrough : ℕ → ℕ → Type 0
@@ -93,11 +91,11 @@ pub record Reply0 : Type 0 where
   -- a run: as many steps as the budget says can be done, one after the other
   pub run_0 : (budget : ℕ) (s : Cpu) (l : Lent)
       → (number_of (run budget s l).ran.reply ≡ 0) ↔ (Ready s l × ((s' : Cpu) × (l' : Lent) × Steps budget s l s' l'))
-  pub exception_0 : (s : Cpu) (l : Lent) (vector pc : ℕ) (level : Level)
+  pub exception_0 : (s : Cpu) (l : Lent) (vector pc : ℕ) (level : Option ℕ)
       → (numbered (exception s l vector pc level) ≡ 0) ↔ (Ready s l × (LevelBelow8 level × (SomeOutside (memory_of l) (entry_at s level vector) → ⊥)))
   pub interrupt_0 : (s : Cpu) (l : Lent) (vector level : ℕ)
       → (numbered (interrupt s l vector level) ≡ 0)
-      ↔ (Ready s l × ((level < 8) × (LetThrough s.sr level × (SomeOutside (memory_of l) (entry_at s (To level) vector) → ⊥))))
+      ↔ (Ready s l × ((level < 8) × (LetThrough s.sr level × (SomeOutside (memory_of l) (entry_at s (Some level) vector) → ⊥))))
   pub rte_0 : (s : Cpu) (l : Lent) → (numbered (rte s l) ≡ 0) ↔ (Ready s l × (SomeOutside (memory_of l) (return_at s) → ⊥))
   pub push32_0 : (s : Cpu) (l : Lent) (v : ℕ) → (numbered (push32 s l v) ≡ 0) ↔ (Ready s l × Inside (memory_of l) (minus (address_of s.r 7) 4) 4)
   pub pop32_0 : (s : Cpu) (l : Lent) → (number_of (pop32 s l).reply ≡ 0) ↔ (Ready s l × Inside (memory_of l) (address_of s.r 7) 4)
@@ -105,7 +103,7 @@ pub record Reply0 : Type 0 where
 pub record Reply1 : Type 0 where
   pub step_1 : (s : Cpu) (l : Lent) → (numbered (step s l) ≡ 1) ↔ TooLong l
   pub run_1 : (budget : ℕ) (s : Cpu) (l : Lent) → (number_of (run budget s l).ran.reply ≡ 1) ↔ TooLong l
-  pub exception_1 : (s : Cpu) (l : Lent) (vector pc : ℕ) (level : Level) → (numbered (exception s l vector pc level) ≡ 1) ↔ TooLong l
+  pub exception_1 : (s : Cpu) (l : Lent) (vector pc : ℕ) (level : Option ℕ) → (numbered (exception s l vector pc level) ≡ 1) ↔ TooLong l
   pub interrupt_1 : (s : Cpu) (l : Lent) (vector level : ℕ) → (numbered (interrupt s l vector level) ≡ 1) ↔ TooLong l
   pub rte_1 : (s : Cpu) (l : Lent) → (numbered (rte s l) ≡ 1) ↔ TooLong l
   pub push32_1 : (s : Cpu) (l : Lent) (v : ℕ) → (numbered (push32 s l v) ≡ 1) ↔ TooLong l
@@ -114,7 +112,7 @@ pub record Reply1 : Type 0 where
 pub record Reply2 : Type 0 where
   pub step_2 : (s : Cpu) (l : Lent) → (numbered (step s l) ≡ 2) ↔ (Usable l × (admitted s ≡ false))
   pub run_2 : (budget : ℕ) (s : Cpu) (l : Lent) → (number_of (run budget s l).ran.reply ≡ 2) ↔ (Usable l × (admitted s ≡ false))
-  pub exception_2 : (s : Cpu) (l : Lent) (vector pc : ℕ) (level : Level)
+  pub exception_2 : (s : Cpu) (l : Lent) (vector pc : ℕ) (level : Option ℕ)
       → (numbered (exception s l vector pc level) ≡ 2) ↔ (Usable l × (admitted s ≡ false))
   pub interrupt_2 : (s : Cpu) (l : Lent) (vector level : ℕ) → (numbered (interrupt s l vector level) ≡ 2) ↔ (Usable l × (admitted s ≡ false))
   pub rte_2 : (s : Cpu) (l : Lent) → (numbered (rte s l) ≡ 2) ↔ (Usable l × (admitted s ≡ false))
@@ -137,11 +135,11 @@ pub record Reply3 : Type 0 where
 
 -- some access of the call is not inside. An entry stores two longs and reads the vector, a return reads two longs
 pub record Reply4 : Type 0 where
-  pub exception_4 : (s : Cpu) (l : Lent) (vector pc : ℕ) (level : Level)
+  pub exception_4 : (s : Cpu) (l : Lent) (vector pc : ℕ) (level : Option ℕ)
       → (numbered (exception s l vector pc level) ≡ 4) ↔ (Ready s l × (LevelBelow8 level × SomeOutside (memory_of l) (entry_at s level vector)))
   pub interrupt_4 : (s : Cpu) (l : Lent) (vector level : ℕ)
       → (numbered (interrupt s l vector level) ≡ 4)
-      ↔ (Ready s l × ((level < 8) × (LetThrough s.sr level × SomeOutside (memory_of l) (entry_at s (To level) vector))))
+      ↔ (Ready s l × ((level < 8) × (LetThrough s.sr level × SomeOutside (memory_of l) (entry_at s (Some level) vector))))
   pub rte_4 : (s : Cpu) (l : Lent) → (numbered (rte s l) ≡ 4) ↔ (Ready s l × SomeOutside (memory_of l) (return_at s))
   pub push32_4 : (s : Cpu) (l : Lent) (v : ℕ) → (numbered (push32 s l v) ≡ 4) ↔ (Ready s l × Outside (memory_of l) (minus (address_of s.r 7) 4) 4)
   pub pop32_4 : (s : Cpu) (l : Lent) → (number_of (pop32 s l).reply ≡ 4) ↔ (Ready s l × Outside (memory_of l) (address_of s.r 7) 4)
@@ -163,8 +161,8 @@ pub record Reply5 : Type 0 where
   pub run_5 : (budget : ℕ) (s : Cpu) (l : Lent) → number_of (run budget s l).ran.reply ≡ 5 → ⊥
 
 pub record Reply6 : Type 0 where
-  pub exception_6 : (s : Cpu) (l : Lent) (vector pc level : ℕ) → (numbered (exception s l vector pc (To level)) ≡ 6) ↔ (Ready s l × (8 ≤ level))
-  pub exception_kept_6 : (s : Cpu) (l : Lent) (vector pc : ℕ) → numbered (exception s l vector pc Kept) ≡ 6 → ⊥
+  pub exception_6 : (s : Cpu) (l : Lent) (vector pc level : ℕ) → (numbered (exception s l vector pc (Some level)) ≡ 6) ↔ (Ready s l × (8 ≤ level))
+  pub exception_kept_6 : (s : Cpu) (l : Lent) (vector pc : ℕ) → numbered (exception s l vector pc None) ≡ 6 → ⊥
   pub interrupt_6 : (s : Cpu) (l : Lent) (vector level : ℕ) → (numbered (interrupt s l vector level) ≡ 6) ↔ (Ready s l × (8 ≤ level))
   pub acc_get_6 : (s : Cpu) (i : ℕ) → (number_of (acc_get_call s i).reply ≡ 6) ↔ ((admitted s ≡ true) × (4 ≤ i))
   pub acc_phys_6 : (s : Cpu) (i : ℕ) → (number_of (acc_phys_call s i).reply ≡ 6) ↔ ((admitted s ≡ true) × (4 ≤ i))
@@ -218,7 +216,7 @@ pub record Reply8And9 : Type 0 where
 pub record NoOthers : Type 0 where
   pub step_of : (s : Cpu) (l : Lent) → OneOf (0 ∷ 1 ∷ 2 ∷ 3 ∷ 4 ∷ []) (numbered (step s l))
   pub run_of : (budget : ℕ) (s : Cpu) (l : Lent) → OneOf (0 ∷ 1 ∷ 2 ∷ 3 ∷ 4 ∷ []) (number_of (run budget s l).ran.reply)
-  pub exception_of : (s : Cpu) (l : Lent) (vector pc : ℕ) (level : Level) → OneOf (0 ∷ 1 ∷ 2 ∷ 4 ∷ 6 ∷ []) (numbered (exception s l vector pc level))
+  pub exception_of : (s : Cpu) (l : Lent) (vector pc : ℕ) (level : Option ℕ) → OneOf (0 ∷ 1 ∷ 2 ∷ 4 ∷ 6 ∷ []) (numbered (exception s l vector pc level))
   pub interrupt_of : (s : Cpu) (l : Lent) (vector level : ℕ) → OneOf (0 ∷ 1 ∷ 2 ∷ 4 ∷ 6 ∷ 7 ∷ []) (numbered (interrupt s l vector level))
   pub rte_of : (s : Cpu) (l : Lent) → OneOf (0 ∷ 1 ∷ 2 ∷ 4 ∷ []) (numbered (rte s l))
   pub push32_of : (s : Cpu) (l : Lent) (v : ℕ) → OneOf (0 ∷ 1 ∷ 2 ∷ 4 ∷ []) (numbered (push32 s l v))

@@ -1,9 +1,8 @@
 -- Each reply is given exactly when the document says: what Exact states holds. Assumes nothing.
-use Rattle.std.specs.Prelude.{ℕ, ◌≡◌, [], ◌∷◌, ◌↔◌}
+use Rattle.std.specs.Prelude.{ℕ, ◌≡◌, [], ◌∷◌, ◌↔◌, Some, None}
 use Rattle.std.proofs.Common.{sym, ap}
 use Rattle.std.proofs.lemmas.Bool.{false≢true}
 use Rattle.manual.specs.declared.Cpu.{Cpu}
-use Rattle.manual.specs.declared.Level.TheVariants.{Kept, To}
 use Rattle.manual.specs.Admitted.{admitted}
 use Rattle.manual.specs.Reply.{number_of}
 use Rattle.manual.specs.Lent.{Lent, lent_on}
@@ -85,8 +84,8 @@ reply_5 = record { step_5 = of_step_5; run_5 = of_run_5 }
 
 pub reply_6 : Reply6
 reply_6 = record {
-  exception_6 = λ s l vector pc level. laws.iff_trans (of_exception_6 s l vector pc (To level)) (laws.iff_and laws.iff_same (laws.iff_not_lt level 8));
-  exception_kept_6 = λ s l vector pc e. false≢true (sym ((of_exception_6 s l vector pc Kept).0 e).1);
+  exception_6 = λ s l vector pc level. laws.iff_trans (of_exception_6 s l vector pc (Some level)) (laws.iff_and laws.iff_same (laws.iff_not_lt level 8));
+  exception_kept_6 = λ s l vector pc e. false≢true (sym ((of_exception_6 s l vector pc None).0 e).1);
   interrupt_6 = of_interrupt_6;
   acc_get_6 = λ s i. rw (acc_get_number s i) (acc_6 (admitted s) i);
   acc_phys_6 = λ s i. rw (acc_phys_number s i) (acc_6 (admitted s) i);

@@ -1,7 +1,7 @@
 -- The numbers that the parts of an instruction make of longs and of bytes are longs: sums, parts, products, quotients and shifts, what is
 -- read, where an operand lies, and what a change holds. Assumes nothing.
 use Rattle.std.specs.Prelude.{ℕ, zero, suc, ◌+◌, ◌*◌, ◌%◌, ◌^◌, ◌≤◌, ◌<◌, Bool, true, false, cond, ◌&&◌, List, [], ◌∷◌, eqb, ltb, get_or, set, ℤ, ◌*ℤ◌}
-use Rattle.std.proofs.Common.{mod-lt, div-le_self, mul-le-mul}
+use Rattle.std.proofs.Common.{mod-lt, div-le_self, mul-le-mul, Result, Option, Ok, Err, Some, None}
 use Rattle.std.proofs.Math.Nat.{mod-le}
 use native.Mathlib.Omega.{arith}
 use Rattle.std.specs.Int.Bits.{and_lt}
@@ -11,15 +11,9 @@ use Rattle.manual.specs.declared.Size.{Size}
 use Rattle.manual.specs.declared.Size.TheVariants.{Byte, Word, Long}
 use Rattle.manual.specs.declared.Mode.{Mode}
 use Rattle.manual.specs.declared.Emac.{Emac}
-use Rattle.manual.specs.declared.Access.{Access}
-use Rattle.manual.specs.declared.Access.TheVariants.{Here, Not}
 use Rattle.manual.specs.declared.Fault.{Fault}
-use Rattle.manual.specs.declared.Got.{Got}
-use Rattle.manual.specs.declared.Got.TheVariants.{Value, Fault as NoValue}
 use Rattle.manual.specs.declared.Place.{Place}
-use Rattle.manual.specs.declared.Place.TheVariants.{D, A, M, I, Fault as NoPlace}
-use Rattle.manual.specs.declared.Reached.{Reached}
-use Rattle.manual.specs.declared.Reached.TheVariants.{At, NoAddress}
+use Rattle.manual.specs.declared.Place.TheVariants.{D, A, M, I}
 use Rattle.manual.specs.declared.Write.{Write}
 use Rattle.manual.specs.declared.Logic.{Logic}
 use Rattle.manual.specs.declared.Logic.TheVariants.{And, Or, Eor}
@@ -83,14 +77,14 @@ pub record FitsLong (c : Change) : Type 0 where
   pub other_fits : IsLong (other_in c.action)
 
 -- a number is below k, if it was read
-abbrev pub GotBelow : ℕ → Got → Type 0
-GotBelow k (Value v) = v < k
-GotBelow k (NoValue x) = Unit {0}
+abbrev pub GotBelow : ℕ → Result ℕ Fault → Type 0
+GotBelow k (Ok v) = v < k
+GotBelow k (Err x) = Unit {0}
 
 -- an address is a long, if it was reached
-abbrev pub ReachedFits : Reached → Type 0
-ReachedFits (At got) = GotBelow (2 ^ 32) got
-ReachedFits NoAddress = Unit {0}
+abbrev pub ReachedFits : Option (Result ℕ Fault) → Type 0
+ReachedFits (Some got) = GotBelow (2 ^ 32) got
+ReachedFits None = Unit {0}
 
 -- ---- numbers
 
@@ -282,20 +276,20 @@ push-fits g sr next v n = store-fits next _ (write_address 7 _) no_write n (minu
 pub either-fits : (b : Bool) (c d : Change) → FitsLong c → FitsLong d → FitsLong (cond b c d)
 either-fits b c d p q = either FitsLong b c d p q
 
-pub reading-fits : (k : ℕ) (got : Got) (f : ℕ → Change) → GotBelow k got → ((v : ℕ) → v < k → FitsLong (f v)) → FitsLong (reading got f)
-reading-fits k (Value v) f h all = all v h
-reading-fits k (NoValue x) f h all = refused-fits x
+pub reading-fits : (k : ℕ) (got : Result ℕ Fault) (f : ℕ → Change) → GotBelow k got → ((v : ℕ) → v < k → FitsLong (f v)) → FitsLong (reading got f)
+reading-fits k (Ok v) f h all = all v h
+reading-fits k (Err x) f h all = refused-fits x
 
-pub reaching-fits : (sr at : ℕ) (got : Reached) (f : ℕ → Change) → IsLong at → ReachedFits got → ((a : ℕ) → IsLong a → FitsLong (f a)) → FitsLong (reaching sr at got f)
-reaching-fits sr at (At got) f n h all = reading-fits (2 ^ 32) got f h all
-reaching-fits sr at NoAddress f n h all = illegal-fits at sr n
+pub reaching-fits : (sr at : ℕ) (got : Option (Result ℕ Fault)) (f : ℕ → Change) → IsLong at → ReachedFits got → ((a : ℕ) → IsLong a → FitsLong (f a)) → FitsLong (reaching sr at got f)
+reaching-fits sr at (Some got) f n h all = reading-fits (2 ^ 32) got f h all
+reaching-fits sr at None f n h all = illegal-fits at sr n
 
-pub locating-fits : (place : Place) (c : Change) → FitsLong c → FitsLong (locating place c)
-locating-fits (D r) c h = h
-locating-fits (A r) c h = h
-locating-fits (M a) c h = h
-locating-fits (I v) c h = h
-locating-fits (NoPlace x) c h = refused-fits x
+pub locating-fits : (place : Result Place Fault) (c : Change) → FitsLong c → FitsLong (locating place c)
+locating-fits (Ok (D r)) c h = h
+locating-fits (Ok (A r)) c h = h
+locating-fits (Ok (M a)) c h = h
+locating-fits (Ok (I v)) c h = h
+locating-fits (Err x) c h = refused-fits x
 
 -- ---- registers
 
@@ -338,13 +332,13 @@ module _ (g : List ℕ) (all : Longs g) where
   general-long n = all (n % 16)
 
   -- a long goes to a place
-  pub put-fits : (z : Size) (v : ℕ) (place : Place) (c : Change) → IsLong v → FitsLong c → FitsLong (put g z v place c)
+  pub put-fits : (z : Size) (v : ℕ) (place : Result Place Fault) (c : Change) → IsLong v → FitsLong c → FitsLong (put g z v place c)
   unfolding put write_address
-  put-fits z v (D r) c h f = data_fits c.pc c.ccr c.first r _ f.pc-fits f.first_fits (merged-long z _ v (data_long r))
-  put-fits z v (A r) c h f = record { pc-fits = f.pc-fits; first_fits = f.first_fits; second_fits = h; other_fits = omega arith }
-  put-fits z v (M a) c h f = store-fits c.pc c.ccr c.first c.second f.pc-fits f.first_fits f.second_fits a z v
-  put-fits z v (I i) c h f = f
-  put-fits z v (NoPlace x) c h f = refused-fits x
+  put-fits z v (Ok (D r)) c h f = data_fits c.pc c.ccr c.first r _ f.pc-fits f.first_fits (merged-long z _ v (data_long r))
+  put-fits z v (Ok (A r)) c h f = record { pc-fits = f.pc-fits; first_fits = f.first_fits; second_fits = h; other_fits = omega arith }
+  put-fits z v (Ok (M a)) c h f = store-fits c.pc c.ccr c.first c.second f.pc-fits f.first_fits f.second_fits a z v
+  put-fits z v (Ok (I i)) c h f = f
+  put-fits z v (Err x) c h f = refused-fits x
 
 -- ---- what is read of memory that holds bytes
 
@@ -353,38 +347,38 @@ module _ (m : Memory) (bytes-in : Bytes (storage_of m)) where
   unfolding load
   load_below a z = by z (access m a (bytes z))
     where
-      by : (z : Size) (x : Access) → GotBelow (numbers z) (found (storage_of m) z x)
-      by Byte (Here p) = value_lt (storage_of m) p 1 bytes-in
-      by Word (Here p) = value_lt (storage_of m) p 2 bytes-in
-      by Long (Here p) = value_lt (storage_of m) p 4 bytes-in
-      by Byte (Not x) = tt
-      by Word (Not x) = tt
-      by Long (Not x) = tt
+      by : (z : Size) (x : Result ℕ Fault) → GotBelow (numbers z) (found (storage_of m) z x)
+      by Byte (Ok p) = value_lt (storage_of m) p 1 bytes-in
+      by Word (Ok p) = value_lt (storage_of m) p 2 bytes-in
+      by Long (Ok p) = value_lt (storage_of m) p 4 bytes-in
+      by Byte (Err x) = tt
+      by Word (Err x) = tt
+      by Long (Err x) = tt
 
   pub load_fits : (a : ℕ) (z : Size) (f : ℕ → Change) → ((v : ℕ) → v < numbers z → FitsLong (f v)) → FitsLong (reading (load m a z) f)
   load_fits a z f h = reading-fits (numbers z) (load m a z) f (load_below a z) h
 
-  then_fits : (k : ℕ) (got : Got) (f : ℕ → Place) → GotBelow k got → ((v : ℕ) → v < k → ReachedFits (reached (f v))) → ReachedFits (reached (got then f))
-  then_fits k (Value v) f h all = all v h
-  then_fits k (NoValue x) f h all = tt
+  then_fits : (k : ℕ) (got : Result ℕ Fault) (f : ℕ → Result Place Fault) → GotBelow k got → ((v : ℕ) → v < k → ReachedFits (reached (f v))) → ReachedFits (reached (got then f))
+  then_fits k (Ok v) f h all = all v h
+  then_fits k (Err x) f h all = tt
 
   -- and of registers that hold longs
   module _ (g : List ℕ) (all : Longs g) where
-    pub fetch-below : (place : Place) (z : Size) → GotBelow (numbers z) (fetch g m place z)
+    pub fetch-below : (place : Result Place Fault) (z : Size) → GotBelow (numbers z) (fetch g m place z)
     unfolding fetch
-    fetch-below (D r) z = cut_below z (data_of g r)
-    fetch-below (A r) Byte = cut_below Byte (address_of g r)
-    fetch-below (A r) Word = cut_below Word (address_of g r)
-    fetch-below (A r) Long = cut_below Long (address_of g r)
-    fetch-below (M a) z = load_below a z
-    fetch-below (I v) z = cut_below z v
-    fetch-below (NoPlace x) z = tt
+    fetch-below (Ok (D r)) z = cut_below z (data_of g r)
+    fetch-below (Ok (A r)) Byte = cut_below Byte (address_of g r)
+    fetch-below (Ok (A r)) Word = cut_below Word (address_of g r)
+    fetch-below (Ok (A r)) Long = cut_below Long (address_of g r)
+    fetch-below (Ok (M a)) z = load_below a z
+    fetch-below (Ok (I v)) z = cut_below z v
+    fetch-below (Err x) z = tt
 
     pub value-below : (pc : ℕ) (o : Operand) (z : Size) → GotBelow (numbers z) (value g m pc o z)
     unfolding value
     value-below pc o z = fetch-below (locate g m pc o z) z
 
-    word_fits : (pc : ℕ) (f : ℕ → Place) → ((v : ℕ) → ReachedFits (reached (f v))) → ReachedFits (reached (load m pc Word then f))
+    word_fits : (pc : ℕ) (f : ℕ → Result Place Fault) → ((v : ℕ) → ReachedFits (reached (f v))) → ReachedFits (reached (load m pc Word then f))
     word_fits pc f h = then_fits (numbers Word) (load m pc Word) f (load_below pc Word) (λ v l. h v)
 
     -- a mode that has an address has one of 32 bits

@@ -2,10 +2,9 @@
 -- claim, by computation straight from the definition of a step, of `exception` and of `rte`. Document: "Checked by hand", the examples
 -- marked *. The answers of the others were worked out by hand, N after an overflow, OR.B, reads by MOVEC and numbers that name no control
 -- register as docs/DIFFERENCES.md has them (33, 23, 58, 60). Assumes nothing.
-use Rattle.std.specs.Prelude.{ℕ, ◌+◌, ◌-◌, ◌*◌, ◌/◌, ◌%◌, ◌^◌, ◌≡◌, refl, false, cond, List, [], ◌∷◌, ◌++◌, map, get_or, set, replicate}
+use Rattle.std.specs.Prelude.{ℕ, ◌+◌, ◌-◌, ◌*◌, ◌/◌, ◌%◌, ◌^◌, ◌≡◌, refl, false, cond, List, [], ◌∷◌, ◌++◌, map, get_or, set, replicate, None}
 use Rattle.std.specs.Int.Count.{count_leading_zeros}
 use Rattle.manual.specs.declared.Cpu.{Cpu}
-use Rattle.manual.specs.declared.Level.TheVariants.{Kept}
 use Rattle.manual.specs.declared.Size.TheVariants.{Long}
 use Rattle.manual.specs.Reply.{number_of, Outcome}
 use Rattle.manual.specs.Word as word
@@ -121,7 +120,7 @@ controlled words d0 =
 abbrev undone : ℕ → ℕ → ℕ → ℕ → List ℕ
 undone a7 sr vector pc =
     let s : Cpu = state (set (zeros 16) 15 a7) sr 0 (zeros 4) in
-    let o : Outcome = exceptions.exception s (lent (zeros 0x110)) vector pc Kept in
+    let o : Outcome = exceptions.exception s (lent (zeros 0x110)) vector pc None in
     let l : Lent = lent o.storage in
     let at : ℕ = registers.address_of o.stepped.cpu.r 7 in
     let b : Outcome = exceptions.rte o.stepped.cpu l in

@@ -4,7 +4,7 @@
 -- order. 9 and 8 are told by the block alone, then 1 by the memory, then 2 by the block; every other is the reply of the call on the
 -- state that the block holds. And a refused call leaves the block and memory as given, and answers the reply alone. A run that did no
 -- step leaves them too. Assumes nothing.
-use Rattle.std.specs.Prelude.{ℕ, ◌+◌, ◌*◌, ◌/◌, ◌%◌, ◌≤◌, ◌<◌, ◌≡◌, Bool, ◌&&◌, ◌↔◌, ◌⊎◌, ltb, length}
+use Rattle.std.specs.Prelude.{ℕ, ◌+◌, ◌*◌, ◌/◌, ◌%◌, ◌≤◌, ◌<◌, ◌≡◌, Bool, ◌&&◌, ◌↔◌, ◌⊎◌, ltb, length, Option}
 use Rattle.std.proofs.Math.Path.{refl, ap}
 use Rattle.std.proofs.Common.{sym, ◌∙◌, ⊎_elim, inl, inr, eq-eqb}
 use Rattle.std.proofs.Math.Bool.{true, false, cond}
@@ -13,7 +13,6 @@ use mathlib.Core.List.{List, [], ◌∷◌}
 use native.Mathlib.Omega.{arith}
 use Rattle.std.proofs.Math.Dec.{eqb}
 use Rattle.manual.specs.declared.Cpu.{Cpu}
-use Rattle.manual.specs.declared.Level.{Level}
 use Rattle.manual.specs.declared.Reply.{Reply}
 use Rattle.manual.specs.declared.Reply.TheVariants.{Done, TooLong as Long, NotAdmitted, Stopped, NotInside, NotCarried, OutOfRange, Masked, WrongVersion, WrongLength}
 use Rattle.manual.specs.declared.Answer.{Answer}
@@ -79,7 +78,7 @@ pub record OnBlock (read : ℕ) (l : Lent) (reply inner : ℕ) : Type 0 where
 
 pub record HostReplies : Type 0 where
   pub of_step : (b : List ℕ) (l : Lent) → OnBlock (number_of (read_block b).reply) l (reply_in (step_on b l)) (numbered (step (read_block b).cpu l))
-  pub of_exception : (b : List ℕ) (l : Lent) (vector pc : ℕ) (level : Level)
+  pub of_exception : (b : List ℕ) (l : Lent) (vector pc : ℕ) (level : Option ℕ)
       → OnBlock (number_of (read_block b).reply) l (reply_in (exception_on b l vector pc level)) (numbered (exception (read_block b).cpu l vector pc level))
   pub of_interrupt : (b : List ℕ) (l : Lent) (vector level : ℕ)
       → OnBlock (number_of (read_block b).reply) l (reply_in (interrupt_on b l vector level)) (numbered (interrupt (read_block b).cpu l vector level))
@@ -93,7 +92,7 @@ HostUnchanged b m c = (reply_in c ≡ 0 → ⊥) → ((c.block ≡ b) × (c.stor
 
 pub record HostRefusals : Type 0 where
   pub of_step : (b : List ℕ) (l : Lent) → HostUnchanged b l.storage (step_on b l)
-  pub of_exception : (b : List ℕ) (l : Lent) (vector pc : ℕ) (level : Level) → HostUnchanged b l.storage (exception_on b l vector pc level)
+  pub of_exception : (b : List ℕ) (l : Lent) (vector pc : ℕ) (level : Option ℕ) → HostUnchanged b l.storage (exception_on b l vector pc level)
   pub of_interrupt : (b : List ℕ) (l : Lent) (vector level : ℕ) → HostUnchanged b l.storage (interrupt_on b l vector level)
   pub of_rte : (b : List ℕ) (l : Lent) → HostUnchanged b l.storage (rte_on b l)
   -- the count of a run is its answer without the reply
@@ -241,7 +240,7 @@ module _ (b : List ℕ) (l : Lent) where
       replies 256 low_256 alone_256 (step s l) (0 ∷ 1 ∷ 2 ∷ 3 ∷ 4 ∷ []) refl ((exact.no-others).step_of s l)
       ((exact.reply_1).step_1 s l) ((exact.reply_2).step_2 s l)
 
-  exception-replies : (vector pc : ℕ) (level : Level)
+  exception-replies : (vector pc : ℕ) (level : Option ℕ)
       → OnBlock (number_of (read_block b).reply) l (reply_in (exception_on b l vector pc level)) (numbered (exception (read_block b).cpu l vector pc level))
   unfolding exception_on
   exception-replies vector pc level =
@@ -312,7 +311,7 @@ step_kept : (b : List ℕ) (l : Lent) → HostUnchanged b l.storage (step_on b l
 unfolding step_on
 step_kept b l = block-kept 256 low_256 alone_256 _ b l (read_block b) (refusals.of_step _ l)
 
-exception-kept : (b : List ℕ) (l : Lent) (vector pc : ℕ) (level : Level) → HostUnchanged b l.storage (exception_on b l vector pc level)
+exception-kept : (b : List ℕ) (l : Lent) (vector pc : ℕ) (level : Option ℕ) → HostUnchanged b l.storage (exception_on b l vector pc level)
 unfolding exception_on
 exception-kept b l vector pc level = block-kept 0 low_0 alone_0 _ b l (read_block b) (refusals.of_exception _ l vector pc level)
 

@@ -5,12 +5,11 @@
 -- After reply 0 the block at exit is read, with 0, as the state of the call, and memory is the call's. After a run that did steps, whatever
 -- its reply, the block is read as the state after that many steps, and memory is that after them. (Host has what is left otherwise: the
 -- given bytes.) Assumes nothing.
-use Rattle.std.specs.Prelude.{ℕ, ◌+◌, ◌*◌, ◌/◌, ◌<◌, ◌≡◌, Bool, cond, List, eqb, length}
+use Rattle.std.specs.Prelude.{ℕ, ◌+◌, ◌*◌, ◌/◌, ◌<◌, ◌≡◌, Bool, cond, List, eqb, length, Option}
 use Rattle.std.proofs.Math.Path.{refl, ap}
 use Rattle.std.proofs.Common.{◌∙◌, inl, arith, ne_eqb}
 use Rattle.std.proofs.Math.Bool.{true, false}
 use Rattle.manual.specs.declared.Cpu.{Cpu}
-use Rattle.manual.specs.declared.Level.{Level}
 use Rattle.manual.specs.declared.Reply.{Reply}
 use Rattle.manual.specs.declared.Reply.TheVariants.{Done}
 use Rattle.manual.specs.Reply.{number_of, is_done, Outcome}
@@ -59,7 +58,7 @@ pub record HostSentences : Type 0 where
   pub after-step : (b : List ℕ) (l : Lent) → Bytes b → Bytes l.storage → reply_in (step_on b l) ≡ 0
       → let s : Cpu = (read_block b).cpu in
       DoneOn b s (step s l) (step_on b l) × ((step_on b l).answer / 256 ≡ (step s l).stepped.vector)
-  pub after-exception : (b : List ℕ) (l : Lent) (vector pc : ℕ) (level : Level) → Bytes b → Bytes l.storage
+  pub after-exception : (b : List ℕ) (l : Lent) (vector pc : ℕ) (level : Option ℕ) → Bytes b → Bytes l.storage
       → reply_in (exception_on b l vector pc level) ≡ 0
       → let s : Cpu = (read_block b).cpu in
       DoneOn b s (exception s l vector pc level) (exception_on b l vector pc level)
@@ -126,7 +125,7 @@ module _ (b : List ℕ) (l : Lent) (bytes : Bytes b) (all : Bytes l.storage) whe
         ap (λ (c : Called). c.answer / 256) (left b g.0 256 l (step s l) g.1) ∙ omega (arith, g.1),
       )
 
-  after-exception : (vector pc : ℕ) (level : Level) → reply_in (exception_on b l vector pc level) ≡ 0
+  after-exception : (vector pc : ℕ) (level : Option ℕ) → reply_in (exception_on b l vector pc level) ≡ 0
       → DoneOn b s (exception s l vector pc level) (exception_on b l vector pc level)
   unfolding exception_on
   after-exception vector pc level e =

@@ -7,11 +7,10 @@
 -- And with nothing run between, all registers but stopped, the program counter that was handed to the outermost entry, and
 -- every byte outside the frames are as they were when the last return is done. Assumes nothing.
 use Rattle.std.specs.Prelude.{ℕ, ◌+◌, ◌/◌, ◌%◌, ◌^◌, ◌≤◌, ◌<◌, ◌≡◌, refl, Bool, true, false, cond, ◌&&◌, List, [], ◌∷◌, ◌⊎◌, length, get_or, set, eqb}
-use Rattle.std.proofs.Common.{sym, ap, ◌∙◌, ⊎_elim, inl, inr, set-set}
+use Rattle.std.proofs.Common.{sym, ap, ◌∙◌, ⊎_elim, inl, inr, set-set, Option}
 use native.Mathlib.Omega.{arith}
 use Rattle.std.proofs.lemmas.List.{set-get_or}
 use Rattle.manual.specs.declared.Cpu.{Cpu}
-use Rattle.manual.specs.declared.Level.{Level}
 use Rattle.manual.specs.declared.Size.TheVariants.{Byte}
 use Rattle.manual.specs.declared.Reply.TheVariants.{Done}
 use Rattle.manual.specs.Word.{plus, minus}
@@ -206,7 +205,7 @@ address-others : (v : ℕ) (s : Cpu) → Others s (with_address 7 v s)
 unfolding with_address
 address-others v s = record { but_a7 = set-set s.r 15 v 0; vbr = refl; cacr = refl; emac = refl }
 
-handler-others : (s : Cpu) (level : Level) (frame handler : ℕ) → Others s (handler_state (turned s level) frame handler)
+handler-others : (s : Cpu) (level : Option ℕ) (frame handler : ℕ) → Others s (handler_state (turned s level) frame handler)
 unfolding handler_state with_stopped with_pc
 handler-others s level frame handler =
     let t : Cpu = turned s level in
@@ -230,7 +229,7 @@ entered_so : (s : Cpu) (l : Lent) (handed : Cpu) (pc : ℕ) (answer : Outcome) �
     → Entered s l handed pc answer
 entered_so s l handed pc answer given enters done =
     let w : Way s l handed pc answer = way s l handed pc answer given enters done in
-    let level : Level = w.level in
+    let level : Option ℕ = w.level in
     let sp : ℕ = sp_in handed level in
     let x : Left handed (memory_of l) pc level w.vector answer.stepped.cpu answer.storage = way-left _ _ _ _ _ w done in
     let n : Named handed level answer.stepped.cpu = named _ _ _ _ _ _ _ w.on.typed.sixteen x in
@@ -368,12 +367,12 @@ below_so es s l handed pc answer n st h =
     let under : AtMost (a7_after answer + 8) es = at_most_less _ _ es n.below h in
     (touches_none _ es under st, (under, st))
 
-by-pointer : (when : Cpu → Type 0) (pointer : Cpu → ℕ) → ((s : Cpu) (level : Level) → when s → sp_in s level ≡ pointer s) → FrameBelow when pointer
+by-pointer : (when : Cpu → Type 0) (pointer : Cpu → ℕ) → ((s : Cpu) (level : Option ℕ) → when s → sp_in s level ≡ pointer s) → FrameBelow when pointer
 by-pointer when pointer is es s l handed pc answer typed enters done st h under =
     let n : Entered s l handed pc answer = entered_so s l handed pc answer typed enters done in
     below_so es s l handed pc answer n st (rw (is handed n.way.level h) under)
 
-module _ (s : Cpu) (level : Level) where
+module _ (s : Cpu) (level : Option ℕ) where
   one_pointer : two_stacks s ≡ false → sp_in s level ≡ address_of s.r 7
   one_pointer h = rw h
 
@@ -392,7 +391,7 @@ frames_below = record { one_stack = by-pointer _ _ one_pointer; in_supervisor = 
 
 -- ---- with nothing run between
 
-undone-others : (s : Cpu) (level : Level) (at pc : ℕ) (s₂ : Cpu) → Others s₂ (undone_state s level at pc s₂)
+undone-others : (s : Cpu) (level : Option ℕ) (at pc : ℕ) (s₂ : Cpu) → Others s₂ (undone_state s level at pc s₂)
 unfolding with_pc
 undone-others s level at pc s₂ =
     let t : Cpu = with_address 7 (sp_in s level) (with_pc at s₂) in
@@ -458,7 +457,7 @@ record Chained (l : Lent) (es : List Pending) (s₁ : Cpu) (l₁ : Lent) : Type 
   bytes : (j : ℕ) → OutsideFrames es j → number_at (memory_of l₁) j Byte ≡ number_at (memory_of l) j Byte
 
 -- the pointer that the next entry takes
-next_under : (es : List Pending) (s₁ handed : Cpu) (level : Level) → AtLatest es s₁ → SameRegisters s₁ handed → AtMost (sp_in handed level) es
+next_under : (es : List Pending) (s₁ handed : Cpu) (level : Option ℕ) → AtLatest es s₁ → SameRegisters s₁ handed → AtMost (sp_in handed level) es
 next_under [] s₁ handed level a r = tt
 next_under (e ∷ es) s₁ handed level a r =
     let x : sp_in handed level ≡ frame_of e = no-swap handed level (ap supervisor r.same-sr ∙ a.0) ∙ ap (λ (x : List ℕ). address_of x 7) r.same-r ∙ a.1 in

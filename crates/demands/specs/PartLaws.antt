@@ -1,6 +1,6 @@
 -- Which accesses the parts of an instruction make, and what they do then: at the first fault of the accesses an instruction is refused,
 -- and where there is none it has its effect. Assumes nothing.
-use Rattle.std.specs.Prelude.{ℕ, zero, suc, ◌/◌, ◌%◌, ◌≡◌, Bool, true, false, cond, ◌↔◌, get_or}
+use Rattle.std.specs.Prelude.{ℕ, zero, suc, ◌/◌, ◌%◌, ◌≡◌, Bool, true, false, cond, ◌↔◌, get_or, Option, Ok, Err, Some, None}
 use Rattle.std.proofs.Math.Path.{refl}
 use Rattle.std.proofs.Common.{sym, ◌∙◌, arith}
 use mathlib.Core.List.{List, [], ◌∷◌, ◌++◌}
@@ -8,16 +8,8 @@ use Rattle.manual.specs.declared.Size.{Size}
 use Rattle.manual.specs.declared.Size.TheVariants.{Byte, Word, Long}
 use Rattle.manual.specs.declared.Fault.{Fault}
 use Rattle.manual.specs.declared.Fault.TheVariants.{Outside as Out}
-use Rattle.manual.specs.declared.Access.{Access}
-use Rattle.manual.specs.declared.Access.TheVariants.{Here, Not}
-use Rattle.manual.specs.declared.Stored.{Stored}
-use Rattle.manual.specs.declared.Stored.TheVariants.{Done as Taken, Fault as NotTaken}
-use Rattle.manual.specs.declared.Got.{Got}
-use Rattle.manual.specs.declared.Got.TheVariants.{Value, Fault as NoValue}
 use Rattle.manual.specs.declared.Place.{Place}
-use Rattle.manual.specs.declared.Place.TheVariants.{D, A, M, I, Fault as NoPlace}
-use Rattle.manual.specs.declared.Reached.{Reached}
-use Rattle.manual.specs.declared.Reached.TheVariants.{At, NoAddress}
+use Rattle.manual.specs.declared.Place.TheVariants.{D, A, M, I}
 use Rattle.manual.specs.declared.Write.{Write}
 use Rattle.manual.specs.declared.Destination.{Destination}
 use Rattle.manual.specs.declared.Operand.{Operand}
@@ -29,7 +21,7 @@ use Rattle.manual.specs.Word.{bytes}
 use Rattle.manual.specs.Memory.{Memory, storage_of, access, taken, first_fault, found, load, number_in, number_at}
 use Rattle.manual.specs.Address.{operand, extension, immediate, locate, fetch, value, source, reached, control, ◌then◌, destination, destination_of}
 use Rattle.manual.specs.Reply.{number_of, fault_reply}
-use Rattle.manual.specs.Change.{done, store, acting, enter_after, enter, illegal, privilege, refused, reading, reaching, locating, put, put_to, updating, Result}
+use Rattle.manual.specs.Change.{done, store, acting, enter_after, enter, illegal, privilege, refused, reading, reaching, locating, put, put_to, updating, Updated}
 use Rattle.demands.specs.AccessLaws.{here_or_not, taken_or_not}
 use Rattle.demands.specs.Accesses.{Wanted, wanted, Inside, words, named, own, extension_of, operand_at, reached_by, control_at, SomeOutside, this, another}
 use Rattle.manual.specs.Registers.{no_write}
@@ -69,14 +61,14 @@ pub data Does (at sr : ℕ) : Effect → Change → Type 0 where
   does-return : (next : ℕ) → Does at sr returns (acting sr next no_write Return)
 
 -- all the accesses of a list: the first fault, if any
-abbrev pub access_all : Memory → List Wanted → Stored
-access_all m [] = Taken
+abbrev pub access_all : Memory → List Wanted → Result Unit Fault
+access_all m [] = (Ok tt)
 access_all m (x ∷ l) = first_fault (access m x.address x.count) (access_all m l)
 
 -- the number that a fault is refused with; n where there is none
-abbrev pub number_or : Stored → ℕ → ℕ
-number_or Taken n = n
-number_or (NotTaken x) n = number_of (fault_reply x)
+abbrev pub number_or : Result Unit Fault → ℕ → ℕ
+number_or (Ok tt) n = n
+number_or (Err x) n = number_of (fault_reply x)
 
 -- 4 is the number of an access that is not inside, so of some access of the list
 pub some_outside : (m : Memory) (l : List Wanted) → (number_or (access_all m l) 0 ≡ 4) ↔ SomeOutside m l
@@ -86,27 +78,27 @@ some_outside m [] = (λ h. absurd (omega arith), λ h. absurd (nowhere_in h))
     nowhere_in = elim [ ]
 some_outside m (x ∷ l) = by (access m x.address x.count) refl (some_outside m l)
   where
-    past : (p : ℕ) → access m x.address x.count ≡ Here p → SomeOutside m (x ∷ l) → SomeOutside m l
+    past : (p : ℕ) → access m x.address x.count ≡ Ok p → SomeOutside m (x ∷ l) → SomeOutside m l
     past p i (this o) = absurd (here_or_not p Out (sym i ∙ o))
     past p i (another h) = h
 
-    by : (y : Access) → access m x.address x.count ≡ y → (number_or (access_all m l) 0 ≡ 4) ↔ SomeOutside m l
+    by : (y : Result ℕ Fault) → access m x.address x.count ≡ y → (number_or (access_all m l) 0 ≡ 4) ↔ SomeOutside m l
         → (number_or (first_fault y (access_all m l)) 0 ≡ 4) ↔ SomeOutside m (x ∷ l)
-    by (Here p) i rest = (λ h. another (rest.0 h), λ h. rest.1 (past p i h))
-    by (Not Out) i rest = (λ h. this i, λ h. refl)
+    by (Ok p) i rest = (λ h. another (rest.0 h), λ h. rest.1 (past p i h))
+    by (Err Out) i rest = (λ h. this i, λ h. refl)
 
 -- an access that is inside has no fault
 pub past-inside : (m : Memory) (a n : ℕ) (l : List Wanted) → Inside m a n → access_all m (wanted a n ∷ l) ≡ access_all m l
 past-inside m a n l = by (access m a n)
   where
-    by : (x : Access) → taken x ≡ Taken → first_fault x (access_all m l) ≡ access_all m l
-    by (Here at) h = refl
-    by (Not x) h = absurd (taken_or_not x h)
+    by : (x : Result ℕ Fault) → taken x ≡ (Ok tt) → first_fault x (access_all m l) ≡ access_all m l
+    by (Ok at) h = refl
+    by (Err x) h = absurd (taken_or_not x h)
 
 -- what an instruction does after accesses with the first fault that is given: it is refused with the fault, or has the effect
-abbrev pub Follows : ℕ → ℕ → Stored → Effect → Change → Type 0
-Follows at sr Taken e c = Does at sr e c
-Follows at sr (NotTaken x) e c = c ≡ refused x
+abbrev pub Follows : ℕ → ℕ → Result Unit Fault → Effect → Change → Type 0
+Follows at sr (Ok tt) e c = Does at sr e c
+Follows at sr (Err x) e c = c ≡ refused x
 
 -- c makes the accesses l and has then the effect e
 abbrev pub Made : ℕ → ℕ → Memory → List Wanted → Effect → Change → Type 0
@@ -115,21 +107,21 @@ Made at sr m l e c = Follows at sr (access_all m l) e c
 -- ---- the parts that bodies are made of
 
 -- the fault of a number that was not read, of a place that was not found, of an address that was not reached
-abbrev pub missing : Got → Stored
-missing (Value v) = Taken
-missing (NoValue x) = NotTaken x
+abbrev pub missing : Result ℕ Fault → Result Unit Fault
+missing (Ok v) = (Ok tt)
+missing (Err x) = Err x
 
-abbrev pub nowhere : Place → Stored
-nowhere (D r) = Taken
-nowhere (A r) = Taken
-nowhere (M a) = Taken
-nowhere (I v) = Taken
-nowhere (NoPlace x) = NotTaken x
+abbrev pub nowhere : Result Place Fault → Result Unit Fault
+nowhere (Ok (D r)) = (Ok tt)
+nowhere (Ok (A r)) = (Ok tt)
+nowhere (Ok (M a)) = (Ok tt)
+nowhere (Ok (I v)) = (Ok tt)
+nowhere (Err x) = Err x
 
-abbrev pub unreached : Reached → Stored
-unreached (At (Value a)) = Taken
-unreached (At (NoValue x)) = NotTaken x
-unreached NoAddress = Taken
+abbrev pub unreached : Option (Result ℕ Fault) → Result Unit Fault
+unreached (Some (Ok a)) = (Ok tt)
+unreached (Some (Err x)) = Err x
+unreached None = (Ok tt)
 
 pub illegal-does : (at sr : ℕ) → Does at sr (illegal_word at) (illegal at sr)
 unfolding illegal enter
@@ -140,9 +132,9 @@ unfolding privilege enter no_write
 privilege-does at sr = does-enter (violation {w = no_write} (omega arith))
 
 -- the first fault of two
-abbrev pub both : Stored → Stored → Stored
-both Taken y = y
-both (NotTaken x) y = NotTaken x
+abbrev pub both : Result Unit Fault → Result Unit Fault → Result Unit Fault
+both (Ok tt) y = y
+both (Err x) y = Err x
 
 -- ---- the accesses of the parts
 
@@ -152,18 +144,18 @@ module _ (m : Memory) where
   all_both [] k = refl
   all_both (x ∷ l) k = by (access m x.address x.count) (all_both l k)
     where
-      by : (y : Access) → access_all m (l ++ k) ≡ both (access_all m l) (access_all m k)
+      by : (y : Result ℕ Fault) → access_all m (l ++ k) ≡ both (access_all m l) (access_all m k)
           → first_fault y (access_all m (l ++ k)) ≡ both (first_fault y (access_all m l)) (access_all m k)
-      by (Here at) e = e
-      by (Not x) e = refl
+      by (Ok at) e = e
+      by (Err x) e = refl
 
-  pub missing-found : (z : Size) (x : Access) → missing (found (storage_of m) z x) ≡ first_fault x Taken
-  missing-found z (Here at) = refl
-  missing-found z (Not x) = refl
+  pub missing-found : (z : Size) (x : Result ℕ Fault) → missing (found (storage_of m) z x) ≡ first_fault x (Ok tt)
+  missing-found z (Ok at) = refl
+  missing-found z (Err x) = refl
 
-  then_place : (z : Size) (x : Access) (f : ℕ → Place) → ((v : ℕ) → nowhere (f v) ≡ Taken) → nowhere (found (storage_of m) z x then f) ≡ first_fault x Taken
-  then_place z (Here at) f h = h _
-  then_place z (Not x) f h = refl
+  then_place : (z : Size) (x : Result ℕ Fault) (f : ℕ → Result Place Fault) → ((v : ℕ) → nowhere (f v) ≡ (Ok tt)) → nowhere (found (storage_of m) z x then f) ≡ first_fault x (Ok tt)
+  then_place z (Ok at) f h = h _
+  then_place z (Err x) f h = refl
 
   module _ (g : List ℕ) (pc : ℕ) where
     pub locate-made : (o : Operand) (z : Size) → nowhere (locate g m pc o z) ≡ access_all m (words pc (extension o z))
@@ -185,14 +177,14 @@ module _ (m : Memory) where
     locate-made Zero z = refl
 
   -- what stands at a place that was looked for
-  missing_at : (g : List ℕ) (z : Size) (l : List Wanted) (place : Place) → nowhere place ≡ access_all m l
+  missing_at : (g : List ℕ) (z : Size) (l : List Wanted) (place : Result Place Fault) → nowhere place ≡ access_all m l
       → missing (fetch g m place z) ≡ access_all m (l ++ own place z)
   unfolding fetch load
-  missing_at g z l (D r) e = rw (all_both l [], ← e)
-  missing_at g z l (A r) e = rw (all_both l [], ← e)
-  missing_at g z l (M a) e = rw (all_both l (wanted a (bytes z) ∷ []), ← e) (missing-found z (access m a (bytes z)))
-  missing_at g z l (I v) e = rw (all_both l [], ← e)
-  missing_at g z l (NoPlace x) e = rw (all_both l [], ← e)
+  missing_at g z l (Ok (D r)) e = rw (all_both l [], ← e)
+  missing_at g z l (Ok (A r)) e = rw (all_both l [], ← e)
+  missing_at g z l (Ok (M a)) e = rw (all_both l (wanted a (bytes z) ∷ []), ← e) (missing-found z (access m a (bytes z)))
+  missing_at g z l (Ok (I v)) e = rw (all_both l [], ← e)
+  missing_at g z l (Err x) e = rw (all_both l [], ← e)
 
   -- the operand that a word names: it is read, or written
   module _ (g : List ℕ) (pc op : ℕ) (z : Size) where
@@ -211,10 +203,10 @@ module _ (m : Memory) where
 
   -- the words of an immediate are all that is read of it
   module _ (g : List ℕ) (pc : ℕ) where
-    found_number : (w : Size) (x : Access) (f : ℕ → ℕ) (z : Size) → missing (fetch g m (found (storage_of m) w x then λ v. I (f v)) z) ≡ first_fault x Taken
+    found_number : (w : Size) (x : Result ℕ Fault) (f : ℕ → ℕ) (z : Size) → missing (fetch g m (found (storage_of m) w x then λ v. I (f v)) z) ≡ first_fault x (Ok tt)
     unfolding fetch
-    found_number w (Here at) f z = refl
-    found_number w (Not x) f z = refl
+    found_number w (Ok at) f z = refl
+    found_number w (Err x) f z = refl
 
     pub missing-immediate : (z : Size) → missing (value g m pc Immediate z) ≡ access_all m (words pc (extension Immediate z))
     unfolding value locate immediate extension load
@@ -223,15 +215,15 @@ module _ (m : Memory) where
     missing-immediate Long = found_number Long (access m pc 4) _ Long
 
   -- a control mode
-  reached_missed : (l : List Wanted) (place : Place) → nowhere place ≡ access_all m l → unreached (reached place) ≡ access_all m (reached_by (reached place) l)
-  reached_missed l (D r) e = refl
-  reached_missed l (A r) e = refl
-  reached_missed l (M a) e = e
-  reached_missed l (I v) e = refl
-  reached_missed l (NoPlace x) e = e
+  reached_missed : (l : List Wanted) (place : Result Place Fault) → nowhere place ≡ access_all m l → unreached (reached place) ≡ access_all m (reached_by (reached place) l)
+  reached_missed l (Ok (D r)) e = refl
+  reached_missed l (Ok (A r)) e = refl
+  reached_missed l (Ok (M a)) e = e
+  reached_missed l (Ok (I v)) e = refl
+  reached_missed l (Err x) e = e
 
   module _ (g : List ℕ) (pc : ℕ) where
-    mode : (o : Operand) → let got : Reached = reached (locate g m pc o Long) in unreached got ≡ access_all m (reached_by got (words pc (extension o Long)))
+    mode : (o : Operand) → let got : Option (Result ℕ Fault) = reached (locate g m pc o Long) in unreached got ≡ access_all m (reached_by got (words pc (extension o Long)))
     mode o = reached_missed (words pc (extension o Long)) (locate g m pc o Long) (locate-made g pc o Long)
 
     operand-reached : (o : Operand) → unreached (control g m pc o) ≡ access_all m (reached_by (control g m pc o) (words pc (extension o Long)))
@@ -282,56 +274,56 @@ module _ (at sr : ℕ) (m : Memory) where
   unfolding load
   load-made a z k e f h = by (access m a (bytes z)) h
     where
-      by : (x : Access) → Makes k e (f (number_in (found (storage_of m) z x)))
+      by : (x : Result ℕ Fault) → Makes k e (f (number_in (found (storage_of m) z x)))
           → Follows at sr (first_fault x (access_all m k)) e (reading (found (storage_of m) z x) f)
-      by (Here p) h = h
-      by (Not x) h = refl
+      by (Ok p) h = h
+      by (Err x) h = refl
 
-  pub reading-made : (l k : List Wanted) (e : Effect) (got : Got) (f : ℕ → Change) → missing got ≡ access_all m l → Makes k e (f (number_in got)) → Makes (l ++ k) e (reading got f)
-  reading-made l k e (Value v) f p h = rw (all_both m l k, ← p) h
-  reading-made l k e (NoValue x) f p h = rw (all_both m l k, ← p)
+  pub reading-made : (l k : List Wanted) (e : Effect) (got : Result ℕ Fault) (f : ℕ → Change) → missing got ≡ access_all m l → Makes k e (f (number_in got)) → Makes (l ++ k) e (reading got f)
+  reading-made l k e (Ok v) f p h = rw (all_both m l k, ← p) h
+  reading-made l k e (Err x) f p h = rw (all_both m l k, ← p)
 
   -- and no more than that
-  pub reading-only : (l : List Wanted) (e : Effect) (got : Got) (f : ℕ → Change) → missing got ≡ access_all m l → Does at sr e (f (number_in got)) → Makes l e (reading got f)
-  reading-only l e (Value v) f p h = rw (← p) h
-  reading-only l e (NoValue x) f p h = rw (← p)
+  pub reading-only : (l : List Wanted) (e : Effect) (got : Result ℕ Fault) (f : ℕ → Change) → missing got ≡ access_all m l → Does at sr e (f (number_in got)) → Makes l e (reading got f)
+  reading-only l e (Ok v) f p h = rw (← p) h
+  reading-only l e (Err x) f p h = rw (← p)
 
   -- a value goes to a place that was looked for
-  pub put-made : (l : List Wanted) (g : List ℕ) (z : Size) (v : ℕ) (place : Place) (next codes : ℕ) (first second : Write)
+  pub put-made : (l : List Wanted) (g : List ℕ) (z : Size) (v : ℕ) (place : Result Place Fault) (next codes : ℕ) (first second : Write)
       → nowhere place ≡ access_all m l → Makes l (to_place place z v) (put g z v place (done next codes first second))
   unfolding put done store
-  put-made l g z v (D r) next codes first second e = rw (← e) (does-nothing refl)
-  put-made l g z v (A r) next codes first second e = rw (← e) (does-nothing refl)
-  put-made l g z v (M a) next codes first second e = rw (← e) (does-store refl)
-  put-made l g z v (I i) next codes first second e = rw (← e) (does-nothing refl)
-  put-made l g z v (NoPlace x) next codes first second e = rw (← e)
+  put-made l g z v (Ok (D r)) next codes first second e = rw (← e) (does-nothing refl)
+  put-made l g z v (Ok (A r)) next codes first second e = rw (← e) (does-nothing refl)
+  put-made l g z v (Ok (M a)) next codes first second e = rw (← e) (does-store refl)
+  put-made l g z v (Ok (I i)) next codes first second e = rw (← e) (does-nothing refl)
+  put-made l g z v (Err x) next codes first second e = rw (← e)
 
   pub put_to-made : (l : List Wanted) (g : List ℕ) (codes : ℕ) (to : Destination) (z : Size) (v : ℕ)
       → nowhere to.place ≡ access_all m l → Makes l (to_place to.place z v) (put_to g codes to z v)
   unfolding put_to
   put_to-made l g codes to z v e = put-made l g z v to.place to.next codes to.moved no_write e
 
-  pub locating-made : (l : List Wanted) (e : Effect) (place : Place) (c : Change) → nowhere place ≡ access_all m l → Does at sr e c → Makes l e (locating place c)
-  locating-made l e (D r) c p h = rw (← p) h
-  locating-made l e (A r) c p h = rw (← p) h
-  locating-made l e (M a) c p h = rw (← p) h
-  locating-made l e (I v) c p h = rw (← p) h
-  locating-made l e (NoPlace x) c p h = rw (← p)
+  pub locating-made : (l : List Wanted) (e : Effect) (place : Result Place Fault) (c : Change) → nowhere place ≡ access_all m l → Does at sr e c → Makes l e (locating place c)
+  locating-made l e (Ok (D r)) c p h = rw (← p) h
+  locating-made l e (Ok (A r)) c p h = rw (← p) h
+  locating-made l e (Ok (M a)) c p h = rw (← p) h
+  locating-made l e (Ok (I v)) c p h = rw (← p) h
+  locating-made l e (Err x) c p h = rw (← p)
 
   -- what stands at a place that was looked for is read, and then it is written, or something else is done
   module _ (g : List ℕ) (z : Size) (l : List Wanted) where
-    nowhere-fetched : (x : Fault) (f : ℕ → Change) → reading (fetch g m (NoPlace x) z) f ≡ refused x
+    nowhere-fetched : (x : Fault) (f : ℕ → Change) → reading (fetch g m (Err x) z) f ≡ refused x
     unfolding fetch
     nowhere-fetched x f = refl
 
-    fetch-made : (place : Place) (e : Effect) (f : ℕ → Change) → nowhere place ≡ access_all m l
-        → (nowhere place ≡ Taken → Does at sr e (f (number_in (fetch g m place z))))
+    fetch-made : (place : Result Place Fault) (e : Effect) (f : ℕ → Change) → nowhere place ≡ access_all m l
+        → (nowhere place ≡ (Ok tt) → Does at sr e (f (number_in (fetch g m place z))))
         → Makes (l ++ own place z) e (reading (fetch g m place z) f)
-    fetch-made (D r) e f p h = reading-only (l ++ own (D r) z) e (fetch g m (D r) z) f (missing_at m g z l (D r) p) (h refl)
-    fetch-made (A r) e f p h = reading-only (l ++ own (A r) z) e (fetch g m (A r) z) f (missing_at m g z l (A r) p) (h refl)
-    fetch-made (M a) e f p h = reading-only (l ++ own (M a) z) e (fetch g m (M a) z) f (missing_at m g z l (M a) p) (h refl)
-    fetch-made (I v) e f p h = reading-only (l ++ own (I v) z) e (fetch g m (I v) z) f (missing_at m g z l (I v) p) (h refl)
-    fetch-made (NoPlace x) e f p h = rw (all_both m l [], ← p) (nowhere-fetched x f)
+    fetch-made (Ok (D r)) e f p h = reading-only (l ++ own (Ok (D r)) z) e (fetch g m (Ok (D r)) z) f (missing_at m g z l (Ok (D r)) p) (h refl)
+    fetch-made (Ok (A r)) e f p h = reading-only (l ++ own (Ok (A r)) z) e (fetch g m (Ok (A r)) z) f (missing_at m g z l (Ok (A r)) p) (h refl)
+    fetch-made (Ok (M a)) e f p h = reading-only (l ++ own (Ok (M a)) z) e (fetch g m (Ok (M a)) z) f (missing_at m g z l (Ok (M a)) p) (h refl)
+    fetch-made (Ok (I v)) e f p h = reading-only (l ++ own (Ok (I v)) z) e (fetch g m (Ok (I v)) z) f (missing_at m g z l (Ok (I v)) p) (h refl)
+    fetch-made (Err x) e f p h = rw (all_both m l [], ← p) (nowhere-fetched x f)
 
   -- ---- the operand that a word names
 
@@ -345,20 +337,20 @@ module _ (at sr : ℕ) (m : Memory) where
     source-only e f h = reading-only (operand_at g m pc op z) e (value g m pc (named op) z) f (missing-operand m g pc op z) h
 
     -- it is read and written, or not written
-    pub destination-made : (e : Effect) (f : ℕ → Change) → (nowhere (destination g m pc op z).place ≡ Taken → Does at sr e (f (operand_value g at sr m op pc z)))
+    pub destination-made : (e : Effect) (f : ℕ → Change) → (nowhere (destination g m pc op z).place ≡ (Ok tt) → Does at sr e (f (operand_value g at sr m op pc z)))
         → Makes (operand_at g m pc op z) e (reading (fetch g m (destination g m pc op z).place z) f)
     unfolding destination_of value
     destination-made e f h = fetch-made g z (extension_of pc op z) (locate g m pc (named op) z) e f (locate-made m g pc (named op) z) h
 
     -- what f makes of it goes back to it
-    pub updating-made : (f : ℕ → Result) → Makes (operand_at g m pc op z) (updates g at sr m op pc z λ v. (f v).value) (updating g m pc op z f)
+    pub updating-made : (f : ℕ → Updated) → Makes (operand_at g m pc op z) (updates g at sr m op pc z λ v. (f v).value) (updating g m pc op z f)
     unfolding destination_of value
     updating-made f = destination-made _ _ (λ found. put_to-made [] g _ (destination g m pc op z) z _ found)
 
-  pub reaching-made : (l : List Wanted) (e : ℕ → Effect) (got : Reached) (f : ℕ → Change) → unreached got ≡ access_all m l → ((a : ℕ) → Does at sr (e a) (f a)) → Makes l (at_address at got e) (reaching sr at got f)
-  reaching-made l e (At (Value a)) f p h = rw (← p) (h a)
-  reaching-made l e (At (NoValue x)) f p h = rw (← p)
-  reaching-made l e NoAddress f p h = rw (← p) (illegal-does at sr)
+  pub reaching-made : (l : List Wanted) (e : ℕ → Effect) (got : Option (Result ℕ Fault)) (f : ℕ → Change) → unreached got ≡ access_all m l → ((a : ℕ) → Does at sr (e a) (f a)) → Makes l (at_address at got e) (reaching sr at got f)
+  reaching-made l e (Some (Ok a)) f p h = rw (← p) (h a)
+  reaching-made l e (Some (Err x)) f p h = rw (← p)
+  reaching-made l e None f p h = rw (← p) (illegal-does at sr)
 
   -- ---- the rows of a line: each makes its accesses and has its effect
 

@@ -3,16 +3,12 @@
 -- For every call, every reply but 0 returns the state as given, memory as given and 0 for any other value. A step that is refused
 -- changes no byte. (A read of a state block or of a file is given no state: refused, it returns the fresh one.) Assumes nothing.
 use Prim.Native.Nat.{ℕ}
-use Rattle.std.specs.Prelude.{◌≡◌, refl, Bool, true, false, cond, ◌&&◌, List, eqb, ltb, length}
+use Rattle.std.specs.Prelude.{◌≡◌, refl, Bool, true, false, cond, ◌&&◌, List, eqb, ltb, length, Result, Option, Ok, Err, Some}
 use Rattle.std.proofs.Common.{sym, arith}
 use Rattle.std.proofs.lemmas.Bool.{false≢true}
 use Rattle.manual.specs.declared.Cpu.{Cpu}
-use Rattle.manual.specs.declared.Level.{Level}
-use Rattle.manual.specs.declared.Level.TheVariants.{To}
 use Rattle.manual.specs.declared.Size.TheVariants.{Long}
 use Rattle.manual.specs.declared.Fault.{Fault}
-use Rattle.manual.specs.declared.Got.{Got}
-use Rattle.manual.specs.declared.Got.TheVariants.{Value, Fault as NoValue}
 use Rattle.manual.specs.declared.Reply.{Reply}
 use Rattle.manual.specs.declared.Reply.TheVariants.{Done, TooLong, NotAdmitted, Stopped, NotInside, NotCarried, OutOfRange, Masked, WrongVersion, WrongLength}
 use Rattle.manual.specs.declared.Answer.{Answer}
@@ -47,7 +43,7 @@ Unchanged s b o = NotZero o.stepped.reply → ((o.stepped.cpu ≡ s) × (o.stora
 pub record Refusals : Type 0 where
   pub of_step : (s : Cpu) (l : Lent) → Unchanged s l.storage (step s l)
   pub of_perform : (s : Cpu) (c : Change) (m : Memory) → Unchanged s (storage_of m) (perform s c m)
-  pub of_exception : (s : Cpu) (l : Lent) (vector pc : ℕ) (level : Level) → Unchanged s l.storage (exception s l vector pc level)
+  pub of_exception : (s : Cpu) (l : Lent) (vector pc : ℕ) (level : Option ℕ) → Unchanged s l.storage (exception s l vector pc level)
   pub of_interrupt : (s : Cpu) (l : Lent) (vector level : ℕ) → Unchanged s l.storage (interrupt s l vector level)
   pub of_rte : (s : Cpu) (l : Lent) → Unchanged s l.storage (rte s l)
   pub of_push32 : (s : Cpu) (l : Lent) (v : ℕ) → Unchanged s l.storage (push32 s l v)
@@ -126,7 +122,7 @@ module _ (given : Cpu) (m : Memory) where
   fault_kept : (x : Fault) → Kept (unchanged given (fault_reply x) m)
   fault_kept x = same_kept (fault_reply x)
 
-  entered-kept : (s : Cpu) (level : Level) (vector pc : ℕ) → Kept (entered given s level vector pc m)
+  entered-kept : (s : Cpu) (level : Option ℕ) (vector pc : ℕ) → Kept (entered given s level vector pc m)
   unfolding entered
   entered-kept s level vector pc =
       let t : Cpu = set_sr (handler_sr level s.sr) s in
@@ -185,7 +181,7 @@ module _ (given : Cpu) (l : Lent) where
       (either given m given.stopped (unchanged given Stopped m) _ (same_kept given m Stopped)
       (perform_kept given m (execute given.r given.pc given.sr given.other given.emac m)))
 
-  exception-kept : (vector pc : ℕ) (level : Level) → Unchanged given l.storage (exception given l vector pc level)
+  exception-kept : (vector pc : ℕ) (level : Option ℕ) → Unchanged given l.storage (exception given l vector pc level)
   unfolding exception
   exception-kept vector pc level =
       checked-kept _ (either given m (level_taken level) _ (unchanged given OutOfRange m) (entered-kept given m given level vector pc) (same_kept given m OutOfRange))
@@ -194,8 +190,8 @@ module _ (given : Cpu) (l : Lent) where
   unfolding interrupt
   interrupt-kept vector level =
       checked-kept _
-      (either given m (ltb level 8) (cond (masked given.sr level) (unchanged given Masked m) (entered given given (To level) vector given.pc m)) (unchanged given OutOfRange m)
-      (either given m (masked given.sr level) (unchanged given Masked m) _ (same_kept given m Masked) (entered-kept given m given (To level) vector given.pc))
+      (either given m (ltb level 8) (cond (masked given.sr level) (unchanged given Masked m) (entered given given (Some level) vector given.pc m)) (unchanged given OutOfRange m)
+      (either given m (masked given.sr level) (unchanged given Masked m) _ (same_kept given m Masked) (entered-kept given m given (Some level) vector given.pc))
       (same_kept given m OutOfRange))
 
   rte-kept : Unchanged given l.storage (rte given l)
@@ -214,11 +210,11 @@ module _ (given : Cpu) (l : Lent) where
       sp : ℕ
       sp = address_of given.r 7
 
-      by : (b : Bool) (x : Got)
+      by : (b : Bool) (x : Result ℕ Fault)
           → let o : Popped = cond b (popped given sp x) (not_popped given (first_refusal given l)) in
           NotZero o.reply → (o.cpu ≡ given) × (o.value ≡ 0)
-      by true (Value v) h = absurd (done-not h)
-      by true (NoValue x) h = (refl, refl)
+      by true (Ok v) h = absurd (done-not h)
+      by true (Err x) h = (refl, refl)
       by false x h = (refl, refl)
 
 set_sr-by : (b : Bool) (s : Cpu) (x : Cpu)

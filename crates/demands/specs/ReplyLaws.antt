@@ -1,19 +1,15 @@
 -- Replies by their numbers: what number a tree of tests gives, and when. Assumes nothing.
+use Rattle.manual.specs.declared.Fault.{Fault}
 use Prim.Native.Nat.{ℕ, zero, suc, ◌/◌, ◌%◌, ◌≤◌, ◌<◌}
-use Rattle.std.specs.Prelude.{◌≡◌, Bool, ◌&&◌, List, [], ◌∷◌, ◌↔◌, ◌⊎◌, eqb, ltb, leb}
+use Rattle.std.specs.Prelude.{◌≡◌, Bool, ◌&&◌, List, [], ◌∷◌, ◌↔◌, ◌⊎◌, eqb, ltb, leb, Result, Option, Ok, Err}
 use Rattle.std.proofs.Math.Path.{refl, ap}
 use Rattle.std.proofs.Common.{sym, ◌∙◌, ⊎_elim, inl, inr, arith, ltb-true, ltb-false, lt-ltb, le-ltb, leb-true, le-leb, eqb-true, eq-eqb, ne_eqb}
 use Rattle.std.proofs.Math.Bool.{true, false, cond}
 use Rattle.std.proofs.lemmas.Bool.{false≢true, eqb-false}
 use Rattle.manual.specs.declared.Cpu.{Cpu}
-use Rattle.manual.specs.declared.Level.{Level}
 use Rattle.manual.specs.declared.Size.{Size}
 use Rattle.manual.specs.declared.Size.TheVariants.{Long}
 use Rattle.manual.specs.declared.Fault.TheVariants.{Outside as Out}
-use Rattle.manual.specs.declared.Access.{Access}
-use Rattle.manual.specs.declared.Access.TheVariants.{Here, Not}
-use Rattle.manual.specs.declared.Stored.{Stored}
-use Rattle.manual.specs.declared.Stored.TheVariants.{Done as Taken, Fault as NotTaken}
 use Rattle.manual.specs.Word.{bytes, plus}
 use Rattle.manual.specs.Registers.{address_of}
 use Rattle.manual.specs.Memory.{Memory, storage_of, access, taken, found, load, storing, first_fault, access_many}
@@ -157,9 +153,9 @@ abbrev pub Answers : Memory → List Wanted → Outcome → Type 0
 Answers m l o = numbered o ≡ number_or (access_all m l) 0
 
 -- a fault is refused with 4
-pub zero_or_4 : (x : Stored) → (number_or x 0 ≡ 0) ⊎ (number_or x 0 ≡ 4)
-zero_or_4 Taken = inl refl
-zero_or_4 (NotTaken Out) = inr refl
+pub zero_or_4 : (x : Result Unit Fault) → (number_or x 0 ≡ 0) ⊎ (number_or x 0 ≡ 4)
+zero_or_4 (Ok tt) = inl refl
+zero_or_4 (Err Out) = inr refl
 
 pub none-outside : (m : Memory) (l : List Wanted) → (number_or (access_all m l) 0 ≡ 0) ↔ (SomeOutside m l → ⊥)
 none-outside m l = (λ e h. omega (arith, e, (some_outside m l).1 h), λ n. ⊎_elim (λ e. e) (λ e. absurd (n ((some_outside m l).0 e))) (zero_or_4 (access_all m l)))
@@ -191,43 +187,43 @@ module _ (m : Memory) (a n : ℕ) where
   pub one_inside : (SomeOutside m (wanted a n ∷ []) → ⊥) ↔ Inside m a n
   one_inside = (λ h. by (access m a n) refl h, λ i h. taken_or_not Out (sym (ap taken (one_outside.0 h)) ∙ i))
     where
-      by : (x : Access) → access m a n ≡ x → (SomeOutside m (wanted a n ∷ []) → ⊥) → taken x ≡ Taken
-      by (Here p) i h = refl
-      by (Not Out) i h = absurd (h (this i))
+      by : (x : Result ℕ Fault) → access m a n ≡ x → (SomeOutside m (wanted a n ∷ []) → ⊥) → taken x ≡ (Ok tt)
+      by (Ok p) i h = refl
+      by (Err Out) i h = absurd (h (this i))
 
 -- the number of what goes by an access: that of its fault, or of what comes after it
 module _ (given : Cpu) (m : Memory) where
-  number-accessing : (rest : Stored) (x : Access) (f : ℕ → Outcome) → ((at : ℕ) → numbered (f at) ≡ number_or rest 0)
+  number-accessing : (rest : Result Unit Fault) (x : Result ℕ Fault) (f : ℕ → Outcome) → ((at : ℕ) → numbered (f at) ≡ number_or rest 0)
       → numbered (accessing given m x f) ≡ number_or (first_fault x rest) 0
   unfolding refusal
-  number-accessing rest (Here at) f h = h at
-  number-accessing rest (Not x) f h = refl
+  number-accessing rest (Ok at) f h = h at
+  number-accessing rest (Err x) f h = refl
 
-  number-loading : (rest : Stored) (z : Size) (x : Access) (f : ℕ → Outcome) → ((v : ℕ) → numbered (f v) ≡ number_or rest 0)
+  number-loading : (rest : Result Unit Fault) (z : Size) (x : Result ℕ Fault) (f : ℕ → Outcome) → ((v : ℕ) → numbered (f v) ≡ number_or rest 0)
       → numbered (loading given m (found (storage_of m) z x) f) ≡ number_or (first_fault x rest) 0
   unfolding refusal
-  number-loading rest z (Here at) f h = h _
-  number-loading rest z (Not x) f h = refl
+  number-loading rest z (Ok at) f h = h _
+  number-loading rest z (Err x) f h = refl
 
-  number-taking : (x : Stored) (o : Outcome) → numbered o ≡ 0 → numbered (taking given m x o) ≡ number_or x 0
+  number-taking : (x : Result Unit Fault) (o : Outcome) → numbered o ≡ 0 → numbered (taking given m x o) ≡ number_or x 0
   unfolding refusal
-  number-taking Taken o h = h
-  number-taking (NotTaken x) o h = refl
+  number-taking (Ok tt) o h = h
+  number-taking (Err x) o h = refl
 
   -- one number is stored, or read
   pub store-answers : (a : ℕ) (z : Size) (o : Outcome) → numbered o ≡ 0 → Answers m (wanted a (bytes z) ∷ []) (taking given m (storing m a z) o)
   unfolding storing
   store-answers a z o h = number-taking (taken (access m a (bytes z))) o h ∙ by (access m a (bytes z))
     where
-      by : (x : Access) → number_or (taken x) 0 ≡ number_or (first_fault x Taken) 0
-      by (Here at) = refl
-      by (Not x) = refl
+      by : (x : Result ℕ Fault) → number_or (taken x) 0 ≡ number_or (first_fault x (Ok tt)) 0
+      by (Ok at) = refl
+      by (Err x) = refl
 
   pub load-answers : (a : ℕ) (z : Size) (f : ℕ → Outcome) → ((v : ℕ) → numbered (f v) ≡ 0) → Answers m (wanted a (bytes z) ∷ []) (loading given m (load m a z) f)
   unfolding load
-  load-answers a z f h = number-loading Taken z (access m a (bytes z)) f h
+  load-answers a z f h = number-loading (Ok tt) z (access m a (bytes z)) f h
 
-module _ (given s : Cpu) (level : Level) (vector pc : ℕ) (m : Memory) where
+module _ (given s : Cpu) (level : Option ℕ) (vector pc : ℕ) (m : Memory) where
   -- A7 with the handler's status register
   abbrev pointer : ℕ
   pointer = address_of (set_sr (handler_sr level s.sr) s).r 7
@@ -261,7 +257,7 @@ module _ (given s : Cpu) (m : Memory) where
       by false p q = q
 
   pub many-answers : (regs a : ℕ) (o : Outcome) → numbered o ≡ 0 → Answers m (many_longs 16 regs a) (taking given m (access_many 16 m regs a) o)
-  many-answers regs a o h = number-taking given m (access_many 16 m regs a) o h ∙ ap (λ (x : Stored). number_or x 0) (many-all 16 regs a)
+  many-answers regs a o h = number-taking given m (access_many 16 m regs a) o h ∙ ap (λ (x : Result Unit Fault). number_or x 0) (many-all 16 regs a)
 
 -- each number of a list is at most k, so one of them is
 abbrev pub all_to : ℕ → List ℕ → Bool

@@ -4,18 +4,15 @@
 -- many steps, each of them done; a run that stops early stops at the first step that is refused. Replies 1 and 2 come first at
 -- every budget, with count 0 and the state and memory as given. Budget 0 otherwise gives 0 and count 0. Steps that can be done one
 -- after the other have one end, and a run does them. Memory stays as long as it was, and its bytes stay bytes. Assumes nothing.
+use Rattle.manual.specs.declared.Fault.{Fault}
 use Prim.Native.Nat.{ℕ, zero, suc, ◌+◌, ◌/◌, ◌%◌, ◌<◌}
-use Rattle.std.specs.Prelude.{◌≡◌, refl, Bool, cond, List, ◌⊎◌, eqb, length}
+use Rattle.std.specs.Prelude.{◌≡◌, refl, Bool, cond, List, ◌⊎◌, eqb, length, Result, Option, Ok, Err, None}
 use Rattle.std.proofs.Common.{sym, ap, ◌∙◌, ⊎_elim, inl, inr, arith}
 use Rattle.std.proofs.Math.Bool.{true, false}
 use Rattle.manual.specs.declared.Cpu.{Cpu}
 use Rattle.manual.specs.declared.Reply.TheVariants.{Done, Stopped}
 use Rattle.manual.specs.declared.Size.{Size}
 use Rattle.manual.specs.declared.Size.TheVariants.{Long}
-use Rattle.manual.specs.declared.Access.{Access}
-use Rattle.manual.specs.declared.Access.TheVariants.{Here, Not}
-use Rattle.manual.specs.declared.Level.{Level}
-use Rattle.manual.specs.declared.Level.TheVariants.{Kept}
 use Rattle.manual.specs.declared.Action.{Action}
 use Rattle.manual.specs.declared.Action.TheVariants.{Nothing, Store, StoreMany, LoadMany, Enter, Return, Status, Stop, PushStatus, Halt, SetOther, Accumulate, SetAcc, SetExt, SetMacsr, SetMask, CopyAcc, ClearAcc, MoveControl, Refuse}
 use Rattle.manual.specs.declared.Change.{Change}
@@ -91,9 +88,9 @@ module _ (K : Storage → Type 0) (keeps : (b : Storage) (a n v : ℕ) → K b �
   unfolding stored
   stored-kept m a z v h = by (access m a (bytes z))
     where
-      by : (x : Access) → K (stored_in (storage_of m) z v x)
-      by (Here at) = keeps (storage_of m) at (bytes z) v h
-      by (Not x) = h
+      by : (x : Result ℕ Fault) → K (stored_in (storage_of m) z v x)
+      by (Ok at) = keeps (storage_of m) at (bytes z) v h
+      by (Err x) = h
 
   many-kept : (left : ℕ) (g : List ℕ) (n mask at : ℕ) (m : Memory) → K (storage_of m) → K (stored_many left g n mask at m)
   unfolding stored_many
@@ -113,7 +110,7 @@ module _ (K : Storage → Type 0) (keeps : (b : Storage) (a n v : ℕ) → K b �
   either-kept false x y p q = q
 
   module _ (given : Cpu) (m : Memory) (h : K (storage_of m)) where
-    pub entered-kept : (s : Cpu) (level : Level) (vector pc : ℕ) → Keeps (entered given s level vector pc m)
+    pub entered-kept : (s : Cpu) (level : Option ℕ) (vector pc : ℕ) → Keeps (entered given s level vector pc m)
     unfolding entered
     entered-kept s level vector pc =
         let t : Cpu = set_sr (handler_sr level s.sr) s in
@@ -137,7 +134,7 @@ module _ (K : Storage → Type 0) (keeps : (b : Storage) (a n v : ℕ) → K b �
     act-kept s (Store a z v) = taking-all Keeps given m (λ x. h) (storing m a z) _ (stored-kept m a z v h)
     act-kept s (StoreMany mask a) = taking-all Keeps given m (λ x. h) (access_many 16 m mask a) _ (many-kept 16 s.r 0 mask a m h)
     act-kept s (LoadMany mask a) = taking-all Keeps given m (λ x. h) (access_many 16 m mask a) _ h
-    act-kept s (Enter vector pc) = entered-kept s Kept vector pc
+    act-kept s (Enter vector pc) = entered-kept s None vector pc
     act-kept s Return = returned-kept s
     act-kept s (Status v) = h
     act-kept s (Stop v) = h

@@ -1,5 +1,5 @@
 -- A step up to its instruction, and the words TRAP and RTE. Assumes nothing.
-use Rattle.std.specs.Prelude.{ℕ, ◌+◌, ◌<◌, ◌≡◌, refl, Bool, true, false, cond, List, eqb, T}
+use Rattle.std.specs.Prelude.{ℕ, ◌+◌, ◌<◌, ◌≡◌, refl, Bool, true, false, cond, List, eqb, T, Result, Ok, Err}
 use Rattle.std.proofs.Common.{ap, ◌∙◌, arith, eqb→eq}
 use Rattle.manual.specs.declared.Cpu.{Cpu}
 use Rattle.manual.specs.declared.Emac.{Emac}
@@ -9,9 +9,6 @@ use Rattle.manual.specs.declared.Change.{Change}
 use Rattle.manual.specs.declared.Size.TheVariants.{Word}
 use Rattle.manual.specs.declared.Reply.TheVariants.{Done, Stopped as Stop}
 use Rattle.manual.specs.declared.Fault.{Fault}
-use Rattle.manual.specs.declared.Access.{Access}
-use Rattle.manual.specs.declared.Access.TheVariants.{Here, Not}
-use Rattle.manual.specs.declared.Stored.TheVariants.{Done as Taken}
 use Rattle.manual.specs.Word.{plus}
 use Rattle.manual.specs.Flags.{kept_codes}
 use Rattle.manual.specs.Registers.{no_write, written, with_parts, with_pc, coded, applied}
@@ -70,7 +67,7 @@ module _ (g : List ℕ) (at sr other : ℕ) (e : Emac) (m : Memory) where
   unfolding execute
   fetched op h w = rw (load_inside m at Word h, w)
 
-  pub not-fetched : (x : Fault) → access m at 2 ≡ Not x → execute g at sr other e m ≡ refused x
+  pub not-fetched : (x : Fault) → access m at 2 ≡ Err x → execute g at sr other e m ≡ refused x
   unfolding execute
   not-fetched x h = rw (load-not m at Word x h)
 
@@ -86,9 +83,9 @@ stopped_not e = let z : ◌≡◌ {A = ℕ} 0 1 = cc in omega arith
 abbrev pub doing : Cpu → Memory → Change
 doing s m = execute s.r s.pc s.sr s.other s.emac m
 
-fetched-by : (x : Access) (s : Cpu) (m : Memory) → access m s.pc 2 ≡ x → (perform s (doing s m) m).stepped.reply ≡ Done → taken x ≡ Taken
-fetched-by (Here at) s m i e = refl
-fetched-by (Not x) s m i e =
+fetched-by : (x : Result ℕ Fault) (s : Cpu) (m : Memory) → access m s.pc 2 ≡ x → (perform s (doing s m) m).stepped.reply ≡ Done → taken x ≡ (Ok tt)
+fetched-by (Ok at) s m i e = refl
+fetched-by (Err x) s m i e =
     absurd
     (not_done (fault_reply x) (fault_not x) s m
     (rw (not-fetched s.r s.pc s.sr s.other s.emac m x i, perform-refused s x m) at e))

@@ -1,6 +1,6 @@
 -- When a step and a run give each reply. Assumes nothing.
 use Prim.Native.Nat.{ℕ, ◌+◌, ◌/◌, ◌%◌, ◌<◌}
-use Rattle.std.specs.Prelude.{◌≡◌, Bool, true, false, cond, ◌↔◌, T, eqb}
+use Rattle.std.specs.Prelude.{◌≡◌, Bool, true, false, cond, ◌↔◌, T, eqb, Result, Ok, Err}
 use Rattle.std.proofs.Math.Path.{refl, ap}
 use Rattle.std.proofs.Common.{sym, ◌∙◌, arith, eqb→eq}
 use mathlib.Core.List.{List, [], ◌∷◌, ◌++◌}
@@ -8,10 +8,6 @@ use Rattle.std.proofs.Math.Logic.{⊎_elim, inl, inr}
 use Rattle.manual.specs.declared.Cpu.{Cpu}
 use Rattle.manual.specs.declared.Size.TheVariants.{Word}
 use Rattle.manual.specs.declared.Fault.{Fault}
-use Rattle.manual.specs.declared.Access.{Access}
-use Rattle.manual.specs.declared.Access.TheVariants.{Here, Not}
-use Rattle.manual.specs.declared.Stored.{Stored}
-use Rattle.manual.specs.declared.Stored.TheVariants.{Done as Taken, Fault as NotTaken}
 use Rattle.manual.specs.declared.Reply.TheVariants.{Stopped}
 use Rattle.manual.specs.declared.Change.{Change}
 use Rattle.manual.specs.Memory.{Memory, access, taken, number_at}
@@ -69,19 +65,19 @@ module _ (s : Cpu) (l : Lent) where
   abbrev done_then : List Wanted
   done_then = places (puts_of s does) ++ reads_of s does
 
-  abbrev all : Stored
+  abbrev all : Result Unit Fault
   all = access_all m (accesses s m)
 
   after-fetch : Inside m s.pc 2 → all ≡ both (access_all m own) (access_all m done_then)
   unfolding accesses
   after-fetch i = past-inside m s.pc 2 (own ++ done_then) i ∙ all_both m own done_then
 
-  no-fetch : (x : Fault) → access m s.pc 2 ≡ Not x → all ≡ NotTaken x
+  no-fetch : (x : Fault) → access m s.pc 2 ≡ Err x → all ≡ Err x
   unfolding accesses
   no-fetch x i = rw i
 
   -- the number n, where the reads' first fault is x and the effect's is y; where it is 0, the effect was had
-  record Meets (n : ℕ) (x y : Stored) : Type 0 where
+  record Meets (n : ℕ) (x y : Result Unit Fault) : Type 0 where
     number : n ≡ number_or (both x y) 0
     effect_had : n ≡ 0 → Performs s m does (perform s changing m)
 
@@ -89,9 +85,9 @@ module _ (s : Cpu) (l : Lent) where
   unfolding refusal
   changing-meets = by (access_all m own) (instruction-made s.r s.pc s.sr s.other s.emac m op)
     where
-      by : (x : Stored) → Follows s.pc s.sr x does changing → Meets (numbered (perform s changing m)) x (access_all m done_then)
-      by Taken h = let p : Performs s m does (perform s changing m) = performs s m h in record { number = p.answers; effect_had = λ e. p }
-      by (NotTaken x) h =
+      by : (x : Result Unit Fault) → Follows s.pc s.sr x does changing → Meets (numbered (perform s changing m)) x (access_all m done_then)
+      by (Ok tt) h = let p : Performs s m does (perform s changing m) = performs s m h in record { number = p.answers; effect_had = λ e. p }
+      by (Err x) h =
           let e : numbered (perform s changing m) ≡ number_of (fault_reply x) = ap (λ (c : Change). numbered (perform s c m)) h ∙ ap numbered (perform-refused s x m) in
           record { number = e; effect_had = λ z. absurd (fault_number x (sym e ∙ z)) }
 
@@ -99,10 +95,10 @@ module _ (s : Cpu) (l : Lent) where
   unfolding refusal
   acted-number = by (access m s.pc 2) refl
     where
-      by : (x : Access) → access m s.pc 2 ≡ x → numbered acted ≡ number_or all 0
-      by (Not x) i =
+      by : (x : Result ℕ Fault) → access m s.pc 2 ≡ x → numbered acted ≡ number_or all 0
+      by (Err x) i =
           ap (λ (c : Change). numbered (perform s c m)) (not-fetched s.r s.pc s.sr s.other s.emac m x i) ∙ ap numbered (perform-refused s x m) ∙ rw (no-fetch x i)
-      by (Here p) i =
+      by (Ok p) i =
           let h : Inside m s.pc 2 = ap taken i in
           rw (fetched s.r s.pc s.sr s.other s.emac m op h refl, after-fetch h) changing-meets.number
 

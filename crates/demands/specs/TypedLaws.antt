@@ -4,7 +4,7 @@
 -- Of storage (`Bytes`): every number is below 256. So what the theorems ask of a state and of storage holds of every state to start from,
 -- and again after every call. `Admits` has that MACSR and the accumulators' numbers stay in their ranges. Assumes nothing.
 use Prim.Native.Nat.{ℕ, zero, suc, ◌+◌, ◌/◌, ◌%◌, ◌^◌}
-use Rattle.std.specs.Prelude.{◌≡◌, Bool, cond, ◌&&◌, List, [], ◌∷◌, map, ltb, length, get_or, set, replicate}
+use Rattle.std.specs.Prelude.{◌≡◌, Bool, cond, ◌&&◌, List, [], ◌∷◌, map, ltb, length, get_or, set, replicate, Result, Option, Ok, Err, Some, None}
 use Rattle.std.proofs.Math.Path.{refl, ap}
 use Rattle.std.proofs.Common.{◌∙◌}
 use Rattle.std.proofs.Math.Bool.{true, false}
@@ -14,10 +14,6 @@ use Rattle.std.proofs.Math.ListN.{length-set}
 use Rattle.manual.specs.declared.Cpu.{Cpu}
 use Rattle.manual.specs.declared.Emac.{Emac}
 use Rattle.manual.specs.declared.Size.TheVariants.{Long}
-use Rattle.manual.specs.declared.Got.{Got}
-use Rattle.manual.specs.declared.Got.TheVariants.{Value, Fault as NoValue}
-use Rattle.manual.specs.declared.Level.{Level}
-use Rattle.manual.specs.declared.Level.TheVariants.{Kept, To}
 use Rattle.manual.specs.declared.Reply.{Reply}
 use Rattle.manual.specs.declared.Reply.TheVariants.{Stopped, OutOfRange, Masked}
 use Rattle.manual.specs.declared.Fault.{Fault}
@@ -67,7 +63,7 @@ pub record KeepsTyped : Type 0 where
   -- a run of any budget
   pub by-run : (budget : ℕ) (s : Cpu) (l : Lent) → Typed s → Bytes l.storage → Typed (run budget s l).ran.cpu
   -- an exception of any vector, at any level, with any number as the PC that its frame gets
-  pub by-exception : (s : Cpu) (l : Lent) (vector pc : ℕ) (level : Level) → Typed s → Bytes l.storage → Typed (exception s l vector pc level).stepped.cpu
+  pub by-exception : (s : Cpu) (l : Lent) (vector pc : ℕ) (level : Option ℕ) → Typed s → Bytes l.storage → Typed (exception s l vector pc level).stepped.cpu
   -- an interrupt
   pub by-interrupt : (s : Cpu) (l : Lent) (vector level : ℕ) → Typed s → Bytes l.storage → Typed (interrupt s l vector level).stepped.cpu
   -- a return
@@ -92,7 +88,7 @@ pub record KeepsBytes : Type 0 where
   pub by-step : (s : Cpu) (l : Lent) → Bytes l.storage → Bytes (step s l).storage
   pub by-run : (budget : ℕ) (s : Cpu) (l : Lent) → Bytes l.storage → Bytes (run budget s l).storage
   -- an entry, which stores a frame, and a return, which stores nothing
-  pub by-exception : (s : Cpu) (l : Lent) (vector pc : ℕ) (level : Level) → Bytes l.storage → Bytes (exception s l vector pc level).storage
+  pub by-exception : (s : Cpu) (l : Lent) (vector pc : ℕ) (level : Option ℕ) → Bytes l.storage → Bytes (exception s l vector pc level).storage
   pub by-interrupt : (s : Cpu) (l : Lent) (vector level : ℕ) → Bytes l.storage → Bytes (interrupt s l vector level).storage
   pub by-rte : (s : Cpu) (l : Lent) → Bytes l.storage → Bytes (rte s l).storage
   -- a push of any number
@@ -212,9 +208,9 @@ module _ (m : Memory) (all : Bytes (storage_of m)) where
   number-long : (a : ℕ) → IsLong (number_at m a Long)
   number-long a = by (load m a Long) (load_below m all a Long)
     where
-      by : (x : Got) → GotBelow (2 ^ 32) x → IsLong (number_in x)
-      by (Value v) h = h
-      by (NoValue x) h = omega arith
+      by : (x : Result ℕ Fault) → GotBelow (2 ^ 32) x → IsLong (number_in x)
+      by (Ok v) h = h
+      by (Err x) h = omega arith
 
   loaded-many : (left n mask at : ℕ) (g : List ℕ) → Loaded g → Loaded (loaded_many left m n mask at g)
   unfolding loaded_many
@@ -230,14 +226,14 @@ module _ (m : Memory) (all : Bytes (storage_of m)) where
     refused-typed : (x : Fault) → KeptTyped (unchanged given (fault_reply x) m)
     refused-typed x = refusal-typed given (fault_reply x) kept
 
-    loading-typed : (x : Got) (f : ℕ → Outcome) → GotBelow (2 ^ 32) x → ((v : ℕ) → IsLong v → KeptTyped (f v)) → KeptTyped (loading given m x f)
-    loading-typed (Value v) f h k = k v h
-    loading-typed (NoValue x) f h k = refused-typed x
+    loading-typed : (x : Result ℕ Fault) (f : ℕ → Outcome) → GotBelow (2 ^ 32) x → ((v : ℕ) → IsLong v → KeptTyped (f v)) → KeptTyped (loading given m x f)
+    loading-typed (Ok v) f h k = k v h
+    loading-typed (Err x) f h k = refused-typed x
 
     long-typed : (a : ℕ) (f : ℕ → Outcome) → ((v : ℕ) → IsLong v → KeptTyped (f v)) → KeptTyped (loading given m (load m a Long) f)
     long-typed a f h = loading-typed (load m a Long) f (load_below m all a Long) h
 
-    entered-typed : (s : Cpu) (level : Level) (vector pc : ℕ) → Typed s → KeptTyped (entered given s level vector pc m)
+    entered-typed : (s : Cpu) (level : Option ℕ) (vector pc : ℕ) → Typed s → KeptTyped (entered given s level vector pc m)
     unfolding entered handler_state
     entered-typed s level vector pc h =
         let t : Cpu = set_sr (handler_sr level s.sr) s in
@@ -268,7 +264,7 @@ module _ (m : Memory) (all : Bytes (storage_of m)) where
       act-typed (LoadMany mask a) o =
           let g : Loaded (loaded_many 16 m 0 mask a s.r) = loaded-many 16 0 mask a s.r (record { as_many = h.sixteen; longs = h.registers }) in
           taking-all KeptTyped given m refused-typed (access_many 16 m mask a) _ (registers-typed s h _ g.as_many g.longs)
-      act-typed (Enter vector pc) o = entered-typed s Kept vector pc h
+      act-typed (Enter vector pc) o = entered-typed s None vector pc h
       act-typed Return o = returned-typed s h
       act-typed (Status v) o = set_sr-typed v s h
       act-typed (Stop v) o = stopped_typed _ (set_sr-typed v s h) true
@@ -321,7 +317,7 @@ module _ (s : Cpu) (l : Lent) (t : Typed s) where
         (omega (arith, macsr-small s.emac (admitted-emac s (first-admitted s l r))))
         t.mask-long all)))
 
-    exception-typed : (vector pc : ℕ) (level : Level) → KeptTyped (exception s l vector pc level)
+    exception-typed : (vector pc : ℕ) (level : Option ℕ) → KeptTyped (exception s l vector pc level)
     unfolding exception
     exception-typed vector pc level =
         checked-typed _
@@ -330,10 +326,10 @@ module _ (s : Cpu) (l : Lent) (t : Typed s) where
     interrupt-typed : (vector level : ℕ) → KeptTyped (interrupt s l vector level)
     unfolding interrupt
     interrupt-typed vector level =
-        let i : Outcome = entered s s (To level) vector s.pc m in
+        let i : Outcome = entered s s (Some level) vector s.pc m in
         checked-typed _
         (λ r. either KeptTyped (ltb level 8) (cond (masked s.sr level) (unchanged s Masked m) i) (unchanged s OutOfRange m)
-        (either KeptTyped (masked s.sr level) (unchanged s Masked m) i (refusal-typed s Masked t) (entered-typed m all s t s (To level) vector s.pc t))
+        (either KeptTyped (masked s.sr level) (unchanged s Masked m) i (refusal-typed s Masked t) (entered-typed m all s t s (Some level) vector s.pc t))
         (refusal-typed s OutOfRange t))
 
     rte-typed : KeptTyped (rte s l)
@@ -355,9 +351,9 @@ module _ (s : Cpu) (t : Typed s) where
   unfolding pop32
   pop_typed l = either (λ (p : Popped). Typed p.cpu) (is_done (first_refusal s l)) _ _ (by (load (memory_of l) (address_of s.r 7) Long)) t
     where
-      by : (x : Got) → Typed (popped s (address_of s.r 7) x).cpu
-      by (Value v) = address-typed s t _ (plus-below _ 4)
-      by (NoValue x) = t
+      by : (x : Result ℕ Fault) → Typed (popped s (address_of s.r 7) x).cpu
+      by (Ok v) = address-typed s t _ (plus-below _ 4)
+      by (Err x) = t
 
   set_sr_call_lem : (v : ℕ) → AnswerTyped (set_sr_call s v)
   unfolding set_sr_call
@@ -469,10 +465,10 @@ module _ (s : Cpu) (l : Lent) (all : Bytes l.storage) where
   checked-bytes : (o : Outcome) → KeptBytes o → KeptBytes (checked s l o)
   checked-bytes o h = either KeptBytes (is_done (first_refusal s l)) o (unchanged s (first_refusal s l) (memory_of l)) h all
 
-  entered-bytes : (level : Level) (vector pc : ℕ) → KeptBytes (entered s s level vector pc (memory_of l))
+  entered-bytes : (level : Option ℕ) (vector pc : ℕ) → KeptBytes (entered s s level vector pc (memory_of l))
   entered-bytes level vector pc = entered-kept Bytes store_bytes s (memory_of l) all s level vector pc
 
-  exception-bytes : (vector pc : ℕ) (level : Level) → KeptBytes (exception s l vector pc level)
+  exception-bytes : (vector pc : ℕ) (level : Option ℕ) → KeptBytes (exception s l vector pc level)
   unfolding exception
   exception-bytes vector pc level = checked-bytes _ (either KeptBytes (level_taken level) _ (unchanged s OutOfRange (memory_of l)) (entered-bytes level vector pc) all)
 
@@ -481,7 +477,7 @@ module _ (s : Cpu) (l : Lent) (all : Bytes l.storage) where
   interrupt-bytes vector level =
       checked-bytes _
       (either KeptBytes (ltb level 8) _ (unchanged s OutOfRange (memory_of l))
-      (either KeptBytes (masked s.sr level) (unchanged s Masked (memory_of l)) _ all (entered-bytes (To level) vector s.pc))
+      (either KeptBytes (masked s.sr level) (unchanged s Masked (memory_of l)) _ all (entered-bytes (Some level) vector s.pc))
       all)
 
   rte-bytes : KeptBytes (rte s l)

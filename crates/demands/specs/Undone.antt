@@ -6,15 +6,13 @@
 -- The entries are the calls `exception`, at every level, and `interrupt`, and a step that enters a vector, TRAP among them; the
 -- returns are the call `rte` and the word RTE as a step. Assumes nothing.
 use Prim.Native.Nat.{ℕ, ◌+◌, ◌/◌, ◌%◌, ◌^◌, ◌≤◌, ◌<◌}
-use Rattle.std.specs.Prelude.{◌≡◌, refl, true, false, eqb, ltb, length}
+use Rattle.std.specs.Prelude.{◌≡◌, refl, true, false, eqb, ltb, length, Option, Some, None}
 use Rattle.std.proofs.Math.Path.{sym, ap}
 use Rattle.std.proofs.Common.{subst, ◌∙◌, arith, length-set}
 use Rattle.std.proofs.Math.Bool.{Bool, cond}
 use Rattle.std.proofs.Math.ListN.{get_or}
 use Rattle.manual.specs.declared.Cpu.{Cpu}
 use Rattle.manual.specs.declared.Write.{Write}
-use Rattle.manual.specs.declared.Level.{Level}
-use Rattle.manual.specs.declared.Level.TheVariants.{Kept, To}
 use Rattle.manual.specs.declared.Size.TheVariants.{Byte, Word}
 use Rattle.manual.specs.declared.Reply.TheVariants.{Done, OutOfRange, Masked}
 use Rattle.manual.specs.Word.{plus}
@@ -48,7 +46,7 @@ use Rattle.demands.specs.StepReplies.{of_effect}
 -- the entries from the state s and what is lent, l: the registers and the program counter that the entry is handed, and what it answers.
 -- A step enters where its row does (Effects), and hands on the registers after its operand's move
 pub data Enters (s : Cpu) (l : Lent) : Cpu → ℕ → Outcome → Type 0 where
-  by-exception : (vector pc : ℕ) (level : Level) → vector < 256 → pc < 2 ^ 32 → Enters s l s pc (exception s l vector pc level)
+  by-exception : (vector pc : ℕ) (level : Option ℕ) → vector < 256 → pc < 2 ^ 32 → Enters s l s pc (exception s l vector pc level)
   by-interrupt : (vector level : ℕ) → vector < 256 → Enters s l s s.pc (interrupt s l vector level)
   by-step : (w : Write) (vector pc : ℕ) → effect_of s (memory_of l) ≡ enters w vector pc → Enters s l (handed w pc s) pc (step s l)
 
@@ -102,7 +100,7 @@ pub record StepEntry (s : Cpu) (l : Lent) : Type 0 where
   pub kind : Vector s.pc w vector pc
   pub vector-is : (step s l).stepped.vector ≡ vector
   -- it is entered from the registers after the operand's move
-  pub is : step s l ≡ entered s (handed w pc s) Kept vector pc (memory_of l)
+  pub is : step s l ≡ entered s (handed w pc s) None vector pc (memory_of l)
 
 pub record EveryEntry : Type 0 where
   pub step-enters : (s : Cpu) (l : Lent) → numbered (step s l) ≡ 0 → ((step s l).stepped.vector ≡ 0 → ⊥) → StepEntry s l
@@ -130,7 +128,7 @@ pub record HandedOn (handed : Cpu) : Type 0 where
 -- every entry is `entered`, of the registers that it is handed, and every return is `returned`, of the state with some program counter
 
 pub record Way (s : Cpu) (l : Lent) (handed : Cpu) (pc : ℕ) (entry : Outcome) : Type 0 where
-  pub level : Level
+  pub level : Option ℕ
   pub vector : ℕ
   pub ready : Ready s l
   pub on : HandedOn handed
@@ -155,12 +153,12 @@ way s l given pc entry typed (by-exception vector at level v p) e =
     }
 way s l given pc entry typed (by-interrupt vector level v) e =
     let m : Memory = memory_of l in
-    let i : Outcome = entered s s (To level) vector s.pc m in
+    let i : Outcome = entered s s (Some level) vector s.pc m in
     let k : Outcome = cond (masked s.sr level) (unchanged s Masked m) i in
     let w : laws.Open s l (cond (ltb level 8) k (unchanged s OutOfRange m)) (interrupt s l vector level) = laws.opened s l _ e in
     let one : cond (ltb level 8) k (unchanged s OutOfRange m) ≡ k = laws.passed (ltb level 8) OutOfRange laws.out_of_range_not s m k (rw w.same at e) in
     record {
-      level = To level;
+      level = Some level;
       vector = vector;
       ready = w.ready;
       on = record { typed = typed.0; admits = first-admitted s l w.ready };
@@ -174,7 +172,7 @@ way s l given pc entry typed (by-step w vector at h) e =
     let f : VectorFits s.pc w vector pc = vector-fits (subst (Lawful s.pc) h p.lawful) in
     let ready : Ready s l = (steps.stepped s l e).ready in
     record {
-      level = Kept;
+      level = None;
       vector = vector;
       ready = ready;
       on = record { typed = handed-typed s w pc typed.0 f.move-long (f.pc-long typed.0.pc-long); admits = handed-admitted s w pc (first-admitted s l ready) };
@@ -197,17 +195,17 @@ way_back s l answer typed ready h (by_word awake i w) =
 
 -- ---- what an entry leaves: b says whether the pointers change places, sp is then A7
 
-abbrev pub swaps_in : Cpu → Level → Bool
+abbrev pub swaps_in : Cpu → Option ℕ → Bool
 swaps_in s level = laws.swaps (handler_sr level s.sr) s
 
-abbrev pub sp_in : Cpu → Level → ℕ
+abbrev pub sp_in : Cpu → Option ℕ → ℕ
 sp_in s level = cond (swaps_in s level) s.other (address_of s.r 7)
 
 -- the state with the handler's status register
-abbrev pub turned : Cpu → Level → Cpu
+abbrev pub turned : Cpu → Option ℕ → Cpu
 turned s level = laws.after (swaps_in s level) (status (handler_sr level s.sr)) s
 
-pub record Left (s : Cpu) (m : Memory) (pc : ℕ) (level : Level) (vector : ℕ) (s₁ : Cpu) (b₁ : Storage) : Type 0 where
+pub record Left (s : Cpu) (m : Memory) (pc : ℕ) (level : Option ℕ) (vector : ℕ) (s₁ : Cpu) (b₁ : Storage) : Type 0 where
   pub handler : ℕ
   pub place : ℕ
   pub handler-is : handler ≡ value_at b₁ place 4
@@ -216,7 +214,7 @@ pub record Left (s : Cpu) (m : Memory) (pc : ℕ) (level : Level) (vector : ℕ)
   pub hi : pc_place (sp_in s level) + 4 ≤ length (storage_of m)
   pub lo : frame_place (sp_in s level) + 4 ≤ length (storage_of m)
 
-entry-left : (given s : Cpu) (level : Level) (vector pc : ℕ) (m : Memory) → length s.r ≡ 16
+entry-left : (given s : Cpu) (level : Option ℕ) (vector pc : ℕ) (m : Memory) → length s.r ≡ 16
     → (entered given s level vector pc m).stepped.reply ≡ Done
     → Left s m pc level vector (entered given s level vector pc m).stepped.cpu (entered given s level vector pc m).storage
 entry-left given s level vector pc m n e =
@@ -243,13 +241,13 @@ way-left s l handed pc entry w e =
     rw w.is (entry-left s handed w.level w.vector pc (memory_of l) w.on.typed.sixteen (rw w.is at e))
 
 -- the named things of it
-pub record Named (s : Cpu) (level : Level) (s₁ : Cpu) : Type 0 where
+pub record Named (s : Cpu) (level : Option ℕ) (s₁ : Cpu) : Type 0 where
   pub at_frame : address_of s₁.r 7 ≡ frame_place (sp_in s level)
   pub in_s : supervisor s₁.sr ≡ true
   pub cacr-is : two_stacks s₁ ≡ two_stacks s
   pub other-is : s₁.other ≡ cond (swaps_in s level) (address_of s.r 7) s.other
 
-pub named : (s : Cpu) (m : Memory) (pc : ℕ) (level : Level) (vector : ℕ) (s₁ : Cpu) (b₁ : Storage) → length s.r ≡ 16
+pub named : (s : Cpu) (m : Memory) (pc : ℕ) (level : Option ℕ) (vector : ℕ) (s₁ : Cpu) (b₁ : Storage) → length s.r ≡ 16
     → Left s m pc level vector s₁ b₁ → Named s level s₁
 unfolding handler_state with_stopped with_address with_pc
 named s m pc level vector s₁ b₁ n went =
@@ -265,10 +263,10 @@ named s m pc level vector s₁ b₁ n went =
 -- ---- the return finds the frame, and with it the registers; the pointers change places again where they did before
 
 -- the state after it
-abbrev pub undone_state : Cpu → Level → ℕ → ℕ → Cpu → Cpu
+abbrev pub undone_state : Cpu → Option ℕ → ℕ → ℕ → Cpu → Cpu
 undone_state s level at pc s₂ = with_pc pc (laws.after (swaps_in s level) s.sr (with_address 7 (sp_in s level) (with_pc at s₂)))
 
-pub sp-long : (s : Cpu) (level : Level) → Typed s → sp_in s level < 2 ^ 32
+pub sp-long : (s : Cpu) (level : Option ℕ) → Typed s → sp_in s level < 2 ^ 32
 unfolding address_of
 sp-long s level typed = pick (swaps_in s level) typed.other-long (typed.registers 15)
   where
@@ -276,12 +274,12 @@ sp-long s level typed = pick (swaps_in s level) typed.other-long (typed.register
     pick true x y = x
     pick false x y = y
 
-undone-typed : (s : Cpu) (level : Level) (at pc : ℕ) (s₂ : Cpu) → Typed s → Typed s₂ → at < 2 ^ 32 → pc < 2 ^ 32 → Typed (undone_state s level at pc s₂)
+undone-typed : (s : Cpu) (level : Option ℕ) (at pc : ℕ) (s₂ : Cpu) → Typed s → Typed s₂ → at < 2 ^ 32 → pc < 2 ^ 32 → Typed (undone_state s level at pc s₂)
 undone-typed s level at pc s₂ typed typed₂ p f =
     let a : Typed (with_address 7 (sp_in s level) (with_pc at s₂)) = values.address-typed _ (values.pc-typed s₂ typed₂ at p) (sp_in s level) (sp-long s level typed) in
     values.pc-typed _ (values.after-typed _ a (swaps_in s level) s.sr typed.sr-word) pc f
 
-module _ (s : Cpu) (m : Memory) (pc : ℕ) (level : Level) (vector : ℕ) (on : HandedOn s) (v : vector < 256) (p : pc < 2 ^ 32)
+module _ (s : Cpu) (m : Memory) (pc : ℕ) (level : Option ℕ) (vector : ℕ) (on : HandedOn s) (v : vector < 256) (p : pc < 2 ^ 32)
     (s₁ : Cpu) (l₁ : Lent) (went : Left s m pc level vector s₁ l₁.storage) (s₂ : Cpu) (l₂ : Lent) (n₂ : length s₂.r ≡ 16) (kept : AsLeft s₁ l₁ s₂ l₂) where
   abbrev b₂ : Storage
   b₂ = l₂.storage
@@ -337,7 +335,7 @@ module _ (s : Cpu) (m : Memory) (pc : ℕ) (level : Level) (vector : ℕ) (on : 
 
 -- the return, as a whole
 pub record Gone (handed : Cpu) (pc : ℕ) (s₂ : Cpu) (l₂ : Lent) (answer : Outcome) : Type 0 where
-  pub level : Level
+  pub level : Option ℕ
   pub at : ℕ
   pub is : answer ≡ completed (undone_state handed level at pc s₂) 0 l₂.storage
   pub typed : Typed (undone_state handed level at pc s₂)

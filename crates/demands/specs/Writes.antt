@@ -2,19 +2,18 @@
 --
 -- A step that is done leaves storage with the stores of its row (Effects), one after the other. So it changes no byte outside them, and
 -- they do not overlap: each of them is found in memory after the step, its low bytes at its address. Assumes nothing.
+use Rattle.std.specs.Prelude.{Result, Ok, Err, None}
+use Rattle.manual.specs.declared.Fault.{Fault}
 use Rattle.std.specs.Prelude.{ℕ, zero, suc, ◌+◌, ◌*◌, ◌/◌, ◌%◌, ◌^◌, ◌≤◌, ◌<◌, ◌≡◌, refl, Bool, true, false, cond, List, [], ◌∷◌, ◌++◌, ◌⊎◌, eqb, length, get_or, set}
 use Rattle.std.proofs.Common.{sym, ap, subst, ◌∙◌, ⊎_elim, inl, inr, pow-suc, mul_right_comm, mod-eq_of_lt, mod-lt, arith, length-set, get_or-set_same}
 use Rattle.std.proofs.Math.Nat.{one-le-pow, div-add-mod, mul-add-mod_self_left}
 use Rattle.manual.specs.declared.Cpu.{Cpu}
 use Rattle.manual.specs.declared.Size.TheVariants.{Byte}
-use Rattle.manual.specs.declared.Stored.{Stored}
-use Rattle.manual.specs.declared.Stored.TheVariants.{Done as Taken, Fault as NotTaken}
 use Rattle.manual.specs.Word.{plus}
 use Rattle.manual.specs.Registers.{address_of, general}
 use Rattle.manual.specs.Memory.{Storage, Memory, storage_of, value_at, store_at, access, taken, number_at}
 use Rattle.manual.specs.Lent.{Lent, memory_of, lent_on, longest}
 use Rattle.manual.specs.Exceptions.{set_sr, handler_sr, pc_place, frame_place}
-use Rattle.manual.specs.declared.Level.TheVariants.{Kept}
 use Rattle.block.specs.Typed.{Typed}
 use Rattle.instructions.specs.Step.{step}
 use Rattle.memory.specs.MemoryLaws.{length_store, byte_store, value_same}
@@ -115,19 +114,19 @@ there-all b (q ∷ ps) p apart within (later h) =
 
 -- ---- the stores of an effect are inside where they were done, and apart
 
-inside-places : (m : Memory) (ps : List Put) → access_all m (places ps) ≡ Taken → Within (length (storage_of m)) ps
+inside-places : (m : Memory) (ps : List Put) → access_all m (places ps) ≡ (Ok tt) → Within (length (storage_of m)) ps
 inside-places m [] h = tt
 inside-places m (p ∷ ps) h =
-    let both : (taken (access m p.address p.count) ≡ Taken) × (access_all m (places ps) ≡ Taken) = first_taken (access m p.address p.count) _ h in
+    let both : (taken (access m p.address p.count) ≡ (Ok tt)) × (access_all m (places ps) ≡ (Ok tt)) = first_taken (access m p.address p.count) _ h in
     ((inside_is m p.address p.count).0 both.0, inside-places m ps both.1)
 
 -- where the reads after them are too
-stores-taken : (m : Memory) (x y : List Wanted) → number_or (access_all m (x ++ y)) 0 ≡ 0 → access_all m x ≡ Taken
-stores-taken m x y h = by (access_all m x) (access_all m y) (ap (λ (z : Stored). number_or z 0) (sym (all_both m x y)) ∙ h)
+stores-taken : (m : Memory) (x y : List Wanted) → number_or (access_all m (x ++ y)) 0 ≡ 0 → access_all m x ≡ (Ok tt)
+stores-taken m x y h = by (access_all m x) (access_all m y) (ap (λ (z : Result Unit Fault). number_or z 0) (sym (all_both m x y)) ∙ h)
   where
-    by : (x y : Stored) → number_or (both x y) 0 ≡ 0 → x ≡ Taken
-    by Taken y h = refl
-    by (NotTaken f) y h = absurd (fault_number f h)
+    by : (x y : Result Unit Fault) → number_or (both x y) 0 ≡ 0 → x ≡ (Ok tt)
+    by (Ok tt) y h = refl
+    by (Err f) y h = absurd (fault_number f h)
 
 -- all are at x or above it
 abbrev From : ℕ → List Put → Type 0
@@ -173,8 +172,8 @@ frame_apart : (sp pc w : ℕ) → sp < 2 ^ 32 → Apart (put (pc_place sp) 4 pc 
 frame_apart sp pc w f = ((entry.apart sp f, tt), (tt, tt))
 
 -- A7 in the handler
-handler-sp : (s : Cpu) → Typed s → address_of (set_sr (handler_sr Kept s.sr) s).r 7 < 2 ^ 32
-handler-sp s typed = a7_long _ (set_sr-typed (handler_sr Kept s.sr) s typed)
+handler-sp : (s : Cpu) → Typed s → address_of (set_sr (handler_sr None s.sr) s).r 7 < 2 ^ 32
+handler-sp s typed = a7_long _ (set_sr-typed (handler_sr None s.sr) s typed)
 
 effect-apart : (s : Cpu) (m : Memory) (e : Effect) → Typed s → length (storage_of m) ≤ longest → Lawful s.pc e → Within (length (storage_of m)) (puts_of s e) → Apart (puts_of s e)
 effect-apart s m nothing typed short lawful w = tt

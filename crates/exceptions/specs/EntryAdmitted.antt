@@ -1,14 +1,8 @@
 -- Entry of an exception and return from it keep a state admitted. Assumes nothing.
+use Rattle.manual.specs.declared.Fault.{Fault}
 use Prim.Native.Nat.{ℕ}
-use Rattle.std.specs.Prelude.{◌≡◌, true, false}
+use Rattle.std.specs.Prelude.{◌≡◌, true, false, Result, Option, Ok, Err}
 use Rattle.manual.specs.declared.Cpu.{Cpu}
-use Rattle.manual.specs.declared.Access.{Access}
-use Rattle.manual.specs.declared.Access.TheVariants.{Here, Not}
-use Rattle.manual.specs.declared.Got.{Got}
-use Rattle.manual.specs.declared.Got.TheVariants.{Value, Fault as NoValue}
-use Rattle.manual.specs.declared.Stored.{Stored}
-use Rattle.manual.specs.declared.Stored.TheVariants.{Done as Taken, Fault as NotTaken}
-use Rattle.manual.specs.declared.Level.{Level}
 use Rattle.manual.specs.declared.Reply.{Reply}
 use Rattle.manual.specs.Registers.{address_of, with_address}
 use Rattle.manual.specs.Reply.{Outcome, refusal, fault_reply, accessing, loading, taking}
@@ -35,19 +29,19 @@ refusal-admitted given n h = h
 -- ---- what goes on keeps it, and so does a refusal
 
 module _ (given : Cpu) (m : Memory) (k : admitted given ≡ true) where
-  pub accessing-admitted : (x : Access) (f : ℕ → Outcome) → ((at : ℕ) → admitted (f at).stepped.cpu ≡ true) → admitted (accessing given m x f).stepped.cpu ≡ true
-  accessing-admitted (Here at) f h = h at
-  accessing-admitted (Not x) f h = refusal-admitted given (fault_reply x) k
+  pub accessing-admitted : (x : Result ℕ Fault) (f : ℕ → Outcome) → ((at : ℕ) → admitted (f at).stepped.cpu ≡ true) → admitted (accessing given m x f).stepped.cpu ≡ true
+  accessing-admitted (Ok at) f h = h at
+  accessing-admitted (Err x) f h = refusal-admitted given (fault_reply x) k
 
-  pub loading-admitted : (x : Got) (f : ℕ → Outcome) → ((v : ℕ) → admitted (f v).stepped.cpu ≡ true) → admitted (loading given m x f).stepped.cpu ≡ true
-  loading-admitted (Value v) f h = h v
-  loading-admitted (NoValue x) f h = refusal-admitted given (fault_reply x) k
+  pub loading-admitted : (x : Result ℕ Fault) (f : ℕ → Outcome) → ((v : ℕ) → admitted (f v).stepped.cpu ≡ true) → admitted (loading given m x f).stepped.cpu ≡ true
+  loading-admitted (Ok v) f h = h v
+  loading-admitted (Err x) f h = refusal-admitted given (fault_reply x) k
 
-  pub taking-admitted : (x : Stored) (o : Outcome) → admitted o.stepped.cpu ≡ true → admitted (taking given m x o).stepped.cpu ≡ true
-  taking-admitted Taken o h = h
-  taking-admitted (NotTaken x) o h = refusal-admitted given (fault_reply x) k
+  pub taking-admitted : (x : Result Unit Fault) (o : Outcome) → admitted o.stepped.cpu ≡ true → admitted (taking given m x o).stepped.cpu ≡ true
+  taking-admitted (Ok tt) o h = h
+  taking-admitted (Err x) o h = refusal-admitted given (fault_reply x) k
 
-  pub entered-admitted : (s : Cpu) (level : Level) (vector pc : ℕ) → admitted s ≡ true → admitted (entered given s level vector pc m).stepped.cpu ≡ true
+  pub entered-admitted : (s : Cpu) (level : Option ℕ) (vector pc : ℕ) → admitted s ≡ true → admitted (entered given s level vector pc m).stepped.cpu ≡ true
   unfolding entered
   entered-admitted s level vector pc h =
       let t : Cpu = set_sr (handler_sr level s.sr) s in

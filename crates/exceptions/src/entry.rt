@@ -5,7 +5,7 @@ ghost use Rattle.manual.specs.Reply.{outcome, refusal as refusal_of, fault_reply
 ghost use Rattle.manual.specs.Differences.{frame_bytes};
 ghost use Rattle.manual.specs.Exceptions.{frame_long, framed, handler_state, entered as entered_of, return_state as return_state_of, returned as returned_of};
 
-use manual::{Access, Cpu, Fault, Got, Level, Reply, Size, Stepped};
+use manual::{Cpu, Fault, Reply, Size, Stepped};
 use memory::{access, load, long_at, put_long};
 use state::replies::fault_reply;
 use state::status::{handler_sr, with_status};
@@ -50,7 +50,7 @@ fn handler_state(cpu: Cpu, frame: u32, handler: u32) -> Cpu
 }
 
 // Entry to an exception, or its refusal. The vector is read after the frame is stored.
-pub fn entered(given: Cpu, cpu: Cpu, level: Level, vector: u8, pc: u32, mem: &mut [u8]) -> Stepped
+pub fn entered(given: Cpu, cpu: Cpu, level: Option<u8>, vector: u8, pc: u32, mem: &mut [u8]) -> Stepped
     ensures { outcome result mem.new ≡ entered_of given cpu level vector pc (mapped mem.old) }
 {
     let then = with_status(cpu, handler_sr(level, cpu.sr) as u32);
@@ -59,16 +59,16 @@ pub fn entered(given: Cpu, cpu: Cpu, level: Level, vector: u8, pc: u32, mem: &mu
     let above = minus(sp / 4 * 4, 4);
     let frame = minus(above, 4);
     let high = match access(&*mem, above, 4) {
-        Access::Here(at) => at,
-        Access::Not(x) => return faulted(given, x),
+        Ok(at) => at,
+        Err(x) => return faulted(given, x),
     };
     let low = match access(&*mem, frame, 4) {
-        Access::Here(at) => at,
-        Access::Not(x) => return faulted(given, x),
+        Ok(at) => at,
+        Err(x) => return faulted(given, x),
     };
     let table = match access(&*mem, plus(cpu.vbr, (vector as u32) * 4), 4) {
-        Access::Here(at) => at,
-        Access::Not(x) => return faulted(given, x),
+        Ok(at) => at,
+        Err(x) => return faulted(given, x),
     };
     store_frame(mem, high, low, pc, frame_long(sp, vector, cpu.sr));
     let handler = long_at(mem, table as usize);
@@ -107,12 +107,12 @@ pub fn returned(given: Cpu, cpu: Cpu, mem: &[u8]) -> Stepped
     let g = cpu.r;
     let sp = address(&g, 7);
     let w = match load(mem, sp, Size::Long) {
-        Got::Value(w) => w,
-        Got::Fault(x) => return faulted(given, x),
+        Ok(w) => w,
+        Err(x) => return faulted(given, x),
     };
     let pc = match load(mem, plus(sp, 4), Size::Long) {
-        Got::Value(pc) => pc,
-        Got::Fault(x) => return faulted(given, x),
+        Ok(pc) => pc,
+        Err(x) => return faulted(given, x),
     };
     let next = return_state(cpu, sp, w, pc);
     Stepped {

@@ -12,7 +12,7 @@ use block::store::store_block;
 use calls_exception::entry::{
     exception as exception_call, interrupt as interrupt_call, rte as rte_call,
 };
-use manual::{Answer, Cpu, Level, Reply, Stepped};
+use manual::{Answer, Cpu, Reply, Stepped};
 use state::replies::{is_done, number_of};
 use state::status::lent_refusal;
 
@@ -54,7 +54,7 @@ pub fn store_after(done: bool, cpu: Cpu, block: &mut [u8])
 #[derive(Clone, Copy)]
 enum Call {
     Rte,
-    Exception(u8, u32, Level),
+    Exception(u8, u32, Option<u8>),
     Interrupt(u8, u8),
 }
 
@@ -95,14 +95,14 @@ pub fn rte(block: &mut [u8], mem: &mut [u8]) -> u32
 pub fn exception(block: &mut [u8], mem: &mut [u8], vector: u8, pc: u32) -> u32
     ensures { called result block.new mem.new ≡ exception_on block.old (lent mem.old) vector pc Kept }
 {
-    on_block(block, mem, Call::Exception(vector, pc, Level::Kept))
+    on_block(block, mem, Call::Exception(vector, pc, None))
 }
 
 // Enters an exception at a level: the number of the reply.
 pub fn exception_at(block: &mut [u8], mem: &mut [u8], vector: u8, pc: u32, level: u8) -> u32
     ensures { called result block.new mem.new ≡ exception_on block.old (lent mem.old) vector pc (To level) }
 {
-    on_block(block, mem, Call::Exception(vector, pc, Level::To(level)))
+    on_block(block, mem, Call::Exception(vector, pc, Some(level)))
 }
 
 // Enters an interrupt: the number of the reply.

@@ -1,10 +1,10 @@
 -- The calls of a host on a state block and a memory: the state is read from the block, the call is made, and where it was done the new
 -- state is stored in the block; otherwise the block is unchanged. The answer is the reply's number; for a step and for a run with 256 times
 -- the vector and the count. Document: "The host harness".
-use Rattle.std.specs.Prelude.{ℕ, ◌+◌, ◌*◌}
+use Rattle.std.specs.Prelude.{ℕ, ◌+◌, ◌*◌, Option}
 use mathlib.Core.{Bool.cond, List.List}
 use lib.{Dec.eqb}
-use Rattle.manual.specs.declared.{Cpu.Cpu, Level.Level, Answer.Answer, Reply.Reply}
+use Rattle.manual.specs.declared.{Cpu.Cpu, Answer.Answer, Reply.Reply}
 use Rattle.manual.specs.{Reply.Outcome, Reply.number_of, Reply.is_done, Memory.Storage, Lent.Lent, Lent.or_else, Lent.lent_refusal, Exceptions.exception, Exceptions.interrupt, Exceptions.rte, Block.read_block, Block.store_block}
 use Rattle.instructions.specs.{Step.step, Run.RunOutcome, Run.run}
 
@@ -39,7 +39,7 @@ on_block w r o b l =
     (called (number_of o.stepped.reply + w * o.stepped.vector) (block_after o.stepped.reply o.stepped.cpu b) o.storage)
     (block_refused r b l)
 
-unfoldable pub exception_on : List ℕ → Lent → ℕ → ℕ → Level → Called
+unfoldable pub exception_on : List ℕ → Lent → ℕ → ℕ → Option ℕ → Called
 exception_on b l vector pc level = let r : Answer = read_block b in on_block 0 r (exception r.cpu l vector pc level) b l
 
 unfoldable pub interrupt_on : List ℕ → Lent → ℕ → ℕ → Called

@@ -1,14 +1,14 @@
 -- Line 4: miscellaneous.
-use Rattle.std.specs.Prelude.{ℕ, ◌+◌, ◌-◌, ◌*◌, ◌/◌, ◌%◌}
+use Rattle.std.specs.Prelude.{ℕ, ◌+◌, ◌-◌, ◌*◌, ◌/◌, ◌%◌, Option, Some, None}
 use mathlib.Core.{Bool.Bool, Bool.true, Bool.false, Bool.cond, List.List, List.[], List.◌∷◌}
 use lib.{Dec.eqb, Dec.ltb}
 use Rattle.manual.specs.declared.{Size.Size, Size.TheVariants.Byte, Size.TheVariants.Word, Size.TheVariants.Long, Source.Source, Write.Write, Change.Change, Sum.Sum, Quotient.Quotient, Action.Action, Action.TheVariants.Return}
 use Rattle.manual.specs.declared.{Action.TheVariants.Status, Action.TheVariants.Stop, Action.TheVariants.PushStatus, Action.TheVariants.Halt, Action.TheVariants.SetOther, Action.TheVariants.StoreMany, Action.TheVariants.LoadMany}
-use Rattle.manual.specs.declared.{Action.TheVariants.MoveControl, ControlRegister.ControlRegister, Named.Named, Named.TheVariants.Control, Named.TheVariants.Unknown}
+use Rattle.manual.specs.declared.{Action.TheVariants.MoveControl, ControlRegister.ControlRegister}
 use Rattle.manual.specs.{Word.plus, Word.minus, Word.cut, Word.merged, Word.sign_extended, Bits.bit_of, Bits.with_bit, Multiply.long_product, Multiply.signed_long_product, Divide.quotient, Divide.signed_quotient, Divide.overflow_codes}
 use Rattle.manual.specs.{Registers.data_of, Registers.address_of, Registers.no_write, Registers.write_data, Registers.write_address, Flags.flag_x, Flags.flag_v, Flags.move_codes, Flags.kept_codes, Flags.sum_codes, Flags.extended_codes}
 use Rattle.manual.specs.{Flags.subtracted, Exceptions.supervisor, Memory.Memory, Memory.load, Address.extension, Address.moved, Address.control, Address.destination, Address.operand_of, Change.reading_source, Change.done, Change.store}
-use Rattle.manual.specs.{Change.acting, Change.enter, Change.enter_after, Change.illegal, Change.privilege, Change.jump, Change.push, Change.reading, Change.reaching, Change.put_to, Change.updating, Change.result}
+use Rattle.manual.specs.{Change.acting, Change.enter, Change.enter_after, Change.illegal, Change.privilege, Change.jump, Change.push, Change.reading, Change.reaching, Change.put_to, Change.updating, Change.updated}
 use Rattle.manual.specs.{Fields.upper, Fields.mode, Fields.register, Fields.size_field, Fields.low_four, Fields.high_four, Fields.control_field, Fields.bits, Control.control_register}
 use Rattle.instructions.specs.{Rows.first_row, Rows.by_row}
 
@@ -146,9 +146,9 @@ move_to_ccr g at m op =
     done from.next (kept_codes v) from.moved no_write
 
 -- goes on with the control register that a number names; a number that names none is an illegal instruction
-abbrev pub naming : ℕ → ℕ → Named → (ControlRegister → Change) → Change
-naming sr at (Control c) f = f c
-naming sr at Unknown f = illegal at sr
+abbrev pub naming : ℕ → ℕ → Option ControlRegister → (ControlRegister → Change) → Change
+naming sr at (Some c) f = f c
+naming sr at None f = illegal at sr
 
 -- MOVEC.L Ry,Rc (S): Ry → Rc, or Rc → Ry. Of the second word bits 15 to 12 are Ry, D0 to A7, and bits 11 to 0 Rc. Condition codes are not affected
 -- 12. The word is fetched before the privilege test. The manual: the violation comes before any effect
@@ -254,7 +254,7 @@ tst g at sr m op =
 -- TAS.B <ea>x: the byte is tested; 1 → its bit 7. N, Z of the old byte; V, C cleared; X not affected
 -- 26. Dn too. The manual: memory alone
 unfoldable pub tas : List ℕ → ℕ → ℕ → Memory → ℕ → Change
-tas g at sr m op = updating g m (plus at 2) op Byte λ v. result (move_codes Byte v sr) (with_bit 7 true v)
+tas g at sr m op = updating g m (plus at 2) op Byte λ v. updated (move_codes Byte v sr) (with_bit 7 true v)
 
 -- ---- products and quotients of longs
 
@@ -277,7 +277,7 @@ unfoldable pub mul_l : List ℕ → ℕ → ℕ → Memory → ℕ → Change
 mul_l g at sr m op = with_word_and_long g at m op (mul_l_by g sr)
 
 -- DIVS.L, DIVU.L <ea>y,Dx: Dx / source → Dx. REMS.L, REMU.L <ea>y,Dw:Dx, where Dw is another: the remainder → Dw
-unfoldable pub divided : ℕ → ℕ → ℕ → Quotient
+unfoldable pub divided : ℕ → ℕ → ℕ → Option Quotient
 divided w d v = cond (bit_of 11 w) (signed_quotient d v) (quotient d v)
 
 abbrev pub quotient_to : ℕ → Quotient → Write
@@ -290,17 +290,16 @@ zero_divide sr from = enter_after from.moved sr 5 from.next
 
 -- what every divide leaves, v being its source and z the quotient's size: vector 5 where v is 0, else N, Z of the quotient and a
 -- register; V set if the quotient does not fit, and then no register changes; C cleared; X not affected
-abbrev pub dividing : Size → ℕ → Source → ℕ → Quotient → Write → Change
-dividing z sr from v q to =
-    cond (eqb v 0) (zero_divide sr from)
-    (cond q.fits
-    (done from.next (move_codes z q.quotient sr) from.moved to)
-    (done from.next (overflow_codes sr) from.moved no_write))
+abbrev pub with_quotient : Size → ℕ → Source → Option Quotient → (Quotient → Write) → Change
+with_quotient z sr from (Some q) to = done from.next (move_codes z q.quotient sr) from.moved (to q)
+with_quotient z sr from None to = done from.next (overflow_codes sr) from.moved no_write
+
+abbrev pub dividing : Size → ℕ → Source → ℕ → Option Quotient → (Quotient → Write) → Change
+dividing z sr from v found to = cond (eqb v 0) (zero_divide sr from) (with_quotient z sr from found to)
 
 abbrev pub div_l_by : List ℕ → ℕ → ℕ → Source → ℕ → Change
 div_l_by g sr w from v =
-    let q : Quotient = divided w (data_of g (bits 14 12 w)) v in
-    dividing Long sr from v q (quotient_to w q)
+    dividing Long sr from v (divided w (data_of g (bits 14 12 w)) v) (quotient_to w)
 
 unfoldable pub div_l : List ℕ → ℕ → ℕ → Memory → ℕ → Change
 div_l g at sr m op = with_word_and_long g at m op (div_l_by g sr)

@@ -1,21 +1,22 @@
 -- Line 6: BRA, BSR and Bcc.
-use Rattle.std.specs.Prelude.{ℕ}
+use Rattle.manual.specs.declared.Fault.{Fault}
+use Rattle.std.specs.Prelude.{ℕ, Result, Ok, Err}
 use mathlib.Core.{Bool.cond, List.List, List.[], List.◌∷◌}
 use lib.{Dec.eqb}
-use Rattle.manual.specs.declared.{Size.TheVariants.Byte, Size.TheVariants.Word, Size.TheVariants.Long, Change.Change, Got.Got, Got.TheVariants.Value, Got.TheVariants.Fault as NoValue}
+use Rattle.manual.specs.declared.{Size.TheVariants.Byte, Size.TheVariants.Word, Size.TheVariants.Long, Change.Change}
 use Rattle.manual.specs.{Word.plus, Word.sign_extended, Conditions.condition, Memory.Memory, Memory.load, Change.jump, Change.push, Change.reading, Fields.condition_field, Fields.low_byte}
 use Rattle.instructions.specs.{Rows.first_row, Rows.by_row}
 
 -- the displacement is the word's low byte; 0 says that a word follows, and 255 that a long does
-abbrev pub extended : Got → Got
-extended (Value v) = Value (sign_extended Word v)
-extended (NoValue x) = NoValue x
+abbrev pub extended : Result ℕ Fault → Result ℕ Fault
+extended (Ok v) = Ok (sign_extended Word v)
+extended (Err x) = Err x
 
-unfoldable pub displacement : Memory → ℕ → ℕ → Got
+unfoldable pub displacement : Memory → ℕ → ℕ → Result ℕ Fault
 displacement m pc low =
     cond (eqb low 0)
     (extended (load m pc Word))
-    (cond (eqb low 255) (load m pc Long) (Value (sign_extended Byte low)))
+    (cond (eqb low 255) (load m pc Long) (Ok (sign_extended Byte low)))
 
 unfoldable pub displacement_bytes : ℕ → ℕ
 displacement_bytes low = cond (eqb low 0) 2 (cond (eqb low 255) 4 0)

@@ -1,5 +1,5 @@
 -- Line 8: OR, DIVU.W and DIVS.W.
-use Rattle.std.specs.Prelude.{ℕ, ◌+◌, ◌*◌, ◌%◌}
+use Rattle.std.specs.Prelude.{ℕ, ◌+◌, ◌*◌, ◌%◌, Option}
 use mathlib.Core.{Bool.Bool, Bool.true, Bool.false, Bool.cond, List.List, List.[], List.◌∷◌}
 use Rattle.manual.specs.declared.{Size.TheVariants.Word, Quotient.Quotient, Change.Change, Logic.TheVariants.Or}
 use Rattle.manual.specs.{Word.plus, Divide.word_quotient, Divide.signed_word_quotient, Registers.data_of, Registers.write_data, Change.reading_source, Memory.Memory, Fields.upper}
@@ -7,14 +7,14 @@ use Rattle.instructions.specs.{Rows.first_row, Rows.by_row, Line4.dividing, Line
 
 -- DIVS.W, DIVU.W <ea>y,Dx: Dx / source → Dx, the remainder in its upper word and the quotient in its lower.
 -- N, Z of the quotient; overflow, C and X, and a source of 0, as in DIVS.L (`dividing`)
-unfoldable pub word_divided : Bool → ℕ → ℕ → Quotient
+unfoldable pub word_divided : Bool → ℕ → ℕ → Option Quotient
 word_divided signs d v = cond signs (signed_word_quotient d v) (word_quotient d v)
 
 unfoldable pub div_w : Bool → List ℕ → ℕ → ℕ → Memory → ℕ → Change
 div_w signs g at sr m op =
     reading_source g m (plus at 2) op Word λ from v.
-    let q : Quotient = word_divided signs (data_of g (upper op)) v in
-    dividing Word sr from v q (write_data (upper op) (q.remainder % 0x1_0000 * 0x1_0000 + q.quotient % 0x1_0000))
+    dividing Word sr from v (word_divided signs (data_of g (upper op)) v) λ q.
+    write_data (upper op) (q.remainder % 0x1_0000 * 0x1_0000 + q.quotient % 0x1_0000)
 
 -- ---- the rows of the line
 

@@ -3,7 +3,7 @@ use Rattle.std.specs.Prelude.{ℕ}
 use mathlib.Core.{Bool.Bool, Bool.true, Bool.false, Bool.cond, List.List, List.[], List.◌∷◌}
 use Rattle.manual.specs.declared.{Size.Size, Size.TheVariants.Word, Size.TheVariants.Long, Sum.Sum, Change.Change}
 use Rattle.manual.specs.{Word.plus, Word.minus, Word.merged, Word.sign_extended, Registers.data_of, Registers.address_of, Registers.no_write, Registers.write_data, Registers.write_address, Registers.written, Flags.flag_x, Flags.kept_codes}
-use Rattle.manual.specs.{Flags.sum_codes, Flags.extended_codes, Flags.sum_or_difference, Change.reading_source, Change.done, Change.illegal, Change.updating, Change.result, Differences.any_size, Memory.Memory, Fields.upper, Fields.register}
+use Rattle.manual.specs.{Flags.sum_codes, Flags.extended_codes, Flags.sum_or_difference, Change.reading_source, Change.done, Change.illegal, Change.updating, Change.updated, Differences.any_size, Memory.Memory, Fields.upper, Fields.register}
 use Rattle.instructions.specs.{Rows.first_row, Rows.by_row}
 
 -- ADD <ea>y,Dx: source + Dx → Dx. SUB <ea>y,Dx: Dx - source → Dx. X and C carry or borrow; N, Z of the result; V overflow
@@ -20,7 +20,7 @@ unfoldable pub add_to_place : Bool → Size → List ℕ → ℕ → Memory → 
 add_to_place add z g at m op n =
     updating g m (plus at 2) op z λ v.
     let r : Sum = sum_or_difference add z n v false in
-    result (sum_codes r) r.value
+    updated (sum_codes r) r.value
 
 -- ADD Dy,<ea>x: Dy + destination → destination. SUB Dy,<ea>x: destination - Dy → destination
 unfoldable pub add_to_memory : Bool → List ℕ → ℕ → Memory → ℕ → Change

@@ -3,7 +3,7 @@ use Rattle.std.specs.Prelude.{ℕ}
 use mathlib.Core.{Bool.false, List.List, List.[], List.◌∷◌}
 use Rattle.manual.specs.declared.{Size.Size, Size.TheVariants.Word, Size.TheVariants.Long, Sum.Sum, Change.Change, Logic.Logic, Logic.TheVariants.Eor}
 use Rattle.manual.specs.{Word.plus, Word.sign_extended, Bits.logic, Registers.data_of, Registers.address_of, Registers.no_write, Registers.written, Flags.move_codes, Flags.compare_codes, Flags.subtracted, Change.reading_source, Change.done}
-use Rattle.manual.specs.{Change.updating, Change.result, Differences.any_size, Memory.Memory, Fields.upper, Fields.size_field}
+use Rattle.manual.specs.{Change.updating, Change.updated, Differences.any_size, Memory.Memory, Fields.upper, Fields.size_field}
 use Rattle.instructions.specs.{Rows.first_row, Rows.by_row}
 
 -- CMP <ea>y,Dx: Dx - source. N, Z, V, C of it; X not affected
@@ -28,7 +28,7 @@ logic_to_place l g at sr m op =
     let z : Size = any_size op in
     updating g m (plus at 2) op z λ v.
     let r : ℕ = logic l v (data_of g (upper op)) in
-    result (move_codes z r sr) r
+    updated (move_codes z r sr) r
 
 -- ---- the rows of the line
 

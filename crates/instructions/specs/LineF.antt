@@ -1,17 +1,18 @@
 -- Line F: cache and debug instructions, and the words of the missing floating-point unit.
-use Rattle.std.specs.Prelude.{ℕ}
+use Rattle.manual.specs.declared.Fault.{Fault}
+use Rattle.std.specs.Prelude.{ℕ, Result, Option, Ok, Err, Some, None}
 use mathlib.Core.{Bool.cond, List.List, List.[], List.◌∷◌}
-use Rattle.manual.specs.declared.{Size.TheVariants.Long, Destination.Destination, Change.Change, Got.TheVariants.Value, Got.TheVariants.Fault as NoValue, Reached.Reached, Reached.TheVariants.At, Reached.TheVariants.NoAddress}
+use Rattle.manual.specs.declared.{Size.TheVariants.Long, Destination.Destination, Change.Change}
 use Rattle.manual.specs.{Word.plus, Registers.no_write, Flags.kept_codes, Exceptions.supervisor, Address.extension, Address.destination, Address.control, Address.operand_of, Change.done, Change.enter, Change.privilege, Change.jump}
 use Rattle.manual.specs.{Change.refused, Change.locating, Memory.Memory, Fields.size_field}
 use Rattle.instructions.specs.{Rows.first_row, Rows.by_row}
 
 -- WDEBUG.L <ea>y: the debug module, which this core has not, is written. Condition codes are not affected
 -- 9. It is not privileged, takes every mode, and skips its second word unread. The manual: privileged, modes 2 and 5, and a second word of 3
-abbrev pub debug_ends : ℕ → ℕ → Reached → ℕ → ℕ → Change
-debug_ends sr pc (At (Value a)) words skipped = jump sr (plus (plus pc words) skipped)
-debug_ends sr pc (At (NoValue x)) words skipped = refused x
-debug_ends sr pc NoAddress words skipped = jump sr (plus pc skipped)
+abbrev pub debug_ends : ℕ → ℕ → Option (Result ℕ Fault) → ℕ → ℕ → Change
+debug_ends sr pc (Some (Ok a)) words skipped = jump sr (plus (plus pc words) skipped)
+debug_ends sr pc (Some (Err x)) words skipped = refused x
+debug_ends sr pc None words skipped = jump sr (plus pc skipped)
 
 unfoldable pub wdebug : List ℕ → ℕ → ℕ → Memory → ℕ → Change
 wdebug g at sr m op =

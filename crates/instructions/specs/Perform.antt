@@ -1,7 +1,7 @@
 -- What an instruction leaves is done, once every access has been tested. A refused step changes nothing.
-use Rattle.std.specs.Prelude.{ℕ}
+use Rattle.std.specs.Prelude.{ℕ, None}
 use mathlib.Core.{Bool.true}
-use Rattle.manual.specs.declared.{Cpu.Cpu, Size.TheVariants.Long, Level.TheVariants.Kept, Action.Action, Action.TheVariants.Nothing, Action.TheVariants.Store, Action.TheVariants.StoreMany, Action.TheVariants.LoadMany}
+use Rattle.manual.specs.declared.{Cpu.Cpu, Size.TheVariants.Long, Action.Action, Action.TheVariants.Nothing, Action.TheVariants.Store, Action.TheVariants.StoreMany, Action.TheVariants.LoadMany}
 use Rattle.manual.specs.declared.{Action.TheVariants.Enter, Action.TheVariants.Return, Action.TheVariants.Status, Action.TheVariants.Stop, Action.TheVariants.PushStatus, Action.TheVariants.Halt, Action.TheVariants.SetOther}
 use Rattle.manual.specs.declared.{Action.TheVariants.Accumulate, Action.TheVariants.SetAcc, Action.TheVariants.SetExt, Action.TheVariants.SetMacsr, Action.TheVariants.SetMask, Action.TheVariants.CopyAcc, Action.TheVariants.ClearAcc}
 use Rattle.manual.specs.declared.{Action.TheVariants.MoveControl, Action.TheVariants.Refuse, Change.Change}
@@ -27,7 +27,7 @@ act given s Nothing m = completed s 0 (storage_of m)
 act given s (Store a z v) m = taking given m (storing m a z) (completed s 0 (stored m a z v))
 act given s (StoreMany mask a) m = taking given m (access_many 16 m mask a) (completed s 0 (stored_many 16 s.r 0 mask a m))
 act given s (LoadMany mask a) m = taking given m (access_many 16 m mask a) (completed (with_registers (loaded_many 16 m 0 mask a s.r) s) 0 (storage_of m))
-act given s (Enter vector pc) m = entered given s Kept vector pc m
+act given s (Enter vector pc) m = entered given s None vector pc m
 act given s Return m = returned given s m
 act given s (Status v) m = completed (set_sr v s) 0 (storage_of m)
 act given s (Stop v) m = completed (stopped_with v s) 0 (storage_of m)

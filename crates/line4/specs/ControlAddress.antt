@@ -1,10 +1,8 @@
 -- The address that LEA, PEA, JSR and JMP work on, with the next instruction's; or the change of an instruction that gets none.
-use Rattle.std.specs.Prelude.{ℕ, ◌/◌, ◌%◌, ◌≡◌, refl, List}
+use Rattle.manual.specs.declared.Fault.{Fault}
+use Rattle.std.specs.Prelude.{ℕ, ◌/◌, ◌%◌, ◌≡◌, refl, List, Result, Option, Ok, Err, Some, None}
 use Rattle.manual.specs.declared.Size.TheVariants.{Long}
 use Rattle.manual.specs.declared.Operand.{Operand}
-use Rattle.manual.specs.declared.Got.TheVariants.{Value, Fault as NoValue}
-use Rattle.manual.specs.declared.Reached.{Reached}
-use Rattle.manual.specs.declared.Reached.TheVariants.{At, NoAddress}
 use Rattle.manual.specs.declared.Change.{Change}
 use Rattle.manual.specs.Word.{plus}
 use Rattle.manual.specs.Address.{operand, extension, control}
@@ -16,10 +14,10 @@ use Rattle.instructions.specs.Line4.{lea, pea, jsr, jmp}
 use Rattle.line4.specs.declared.control.Way.{Way}
 use Rattle.line4.specs.declared.control.Way.TheVariants.{To, Ends}
 
-abbrev pub way_by : ℕ → ℕ → ℕ → Reached → Way
-way_by sr at next (At (Value a)) = To a next
-way_by sr at next (At (NoValue x)) = Ends (refused x)
-way_by sr at next NoAddress = Ends (illegal at sr)
+abbrev pub way_by : ℕ → ℕ → ℕ → Option (Result ℕ Fault) → Way
+way_by sr at next (Some (Ok a)) = To a next
+way_by sr at next (Some (Err x)) = Ends (refused x)
+way_by sr at next None = Ends (illegal at sr)
 
 unfoldable pub control_address : List ℕ → ℕ → ℕ → Memory → ℕ → Way
 control_address g at sr m op =
@@ -32,10 +30,10 @@ along (To a next) f = f a next
 along (Ends e) f = e
 
 -- what goes on with an address goes along the way to it
-by_way : (sr at next : ℕ) (r : Reached) (f : ℕ → ℕ → Change) → reaching sr at r (λ a. f a next) ≡ along (way_by sr at next r) f
-by_way sr at next (At (Value a)) f = refl
-by_way sr at next (At (NoValue x)) f = refl
-by_way sr at next NoAddress f = refl
+by_way : (sr at next : ℕ) (r : Option (Result ℕ Fault)) (f : ℕ → ℕ → Change) → reaching sr at r (λ a. f a next) ≡ along (way_by sr at next r) f
+by_way sr at next (Some (Ok a)) f = refl
+by_way sr at next (Some (Err x)) f = refl
+by_way sr at next None f = refl
 
 pub goes : (g : List ℕ) (at sr : ℕ) (m : Memory) (op : ℕ) (f : ℕ → ℕ → Change) →
     reaching sr at (control g m (plus at 2) (operand (op / 8 % 8) (op % 8)))

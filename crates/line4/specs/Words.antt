@@ -1,8 +1,6 @@
 -- What products and quotients of longs read: the second word, the operand's value, the next address and the operand's move.
-use Rattle.std.specs.Prelude.{ℕ, ◌≡◌, refl, List}
+use Rattle.std.specs.Prelude.{ℕ, ◌≡◌, refl, List, Result, Ok, Err}
 use Rattle.manual.specs.declared.Size.TheVariants.{Word, Long}
-use Rattle.manual.specs.declared.Got.{Got}
-use Rattle.manual.specs.declared.Got.TheVariants.{Value, Fault as NoValue}
 use Rattle.manual.specs.declared.Source.{Source}
 use Rattle.manual.specs.declared.Write.{Write}
 use Rattle.manual.specs.declared.Change.{Change}
@@ -14,13 +12,13 @@ use Rattle.instructions.specs.Line4.{with_word_and_long, mul_l_by, mul_l, div_l_
 use Rattle.line4.specs.declared.single.WordAndLong.{WordAndLong}
 use Rattle.line4.specs.declared.single.WordAndLong.TheVariants.{Read, Fault}
 
-abbrev pub long_by : ℕ → Source → Got → WordAndLong
-long_by w from (Value v) = Read w v from.next from.moved
-long_by w from (NoValue x) = Fault x
+abbrev pub long_by : ℕ → Source → Result ℕ Fault → WordAndLong
+long_by w from (Ok v) = Read w v from.next from.moved
+long_by w from (Err x) = Fault x
 
-abbrev pub word_by : Got → Source → WordAndLong
-word_by (Value w) from = long_by w from from.got
-word_by (NoValue x) from = Fault x
+abbrev pub word_by : Result ℕ Fault → Source → WordAndLong
+word_by (Ok w) from = long_by w from from.got
+word_by (Err x) from = Fault x
 
 unfoldable pub word_and_long : List ℕ → ℕ → Memory → ℕ → WordAndLong
 word_and_long g at m op =
@@ -28,18 +26,18 @@ word_and_long g at m op =
     word_by (load m pc Word) (source g m (plus pc 2) op Long)
 
 abbrev pub after : WordAndLong → (ℕ → Source → ℕ → Change) → Change
-after (Read w v next one) f = f w (record { got = Value v; next = next; moved = one }) v
+after (Read w v next one) f = f w (record { got = Ok v; next = next; moved = one }) v
 after (Fault x) f = refused x
 
-by-long : (w : ℕ) (got : Got) (next : ℕ) (one : Write) (f : ℕ → Source → ℕ → Change)
+by-long : (w : ℕ) (got : Result ℕ Fault) (next : ℕ) (one : Write) (f : ℕ → Source → ℕ → Change)
     → let from : Source = record { got = got; next = next; moved = one } in reading got (f w from) ≡ after (long_by w from got) f
-by-long w (Value v) next one f = refl
-by-long w (NoValue x) next one f = refl
+by-long w (Ok v) next one f = refl
+by-long w (Err x) next one f = refl
 
-by_word : (got : Got) (from : Source) (f : ℕ → Source → ℕ → Change)
+by_word : (got : Result ℕ Fault) (from : Source) (f : ℕ → Source → ℕ → Change)
     → reading got (λ w. reading from.got (f w from)) ≡ after (word_by got from) f
-by_word (Value w) from f = by-long w from.got from.next from.moved f
-by_word (NoValue x) from f = refl
+by_word (Ok w) from f = by-long w from.got from.next from.moved f
+by_word (Err x) from f = refl
 
 module _ (g : List ℕ) (at sr : ℕ) (m : Memory) (op : ℕ) where
   -- what goes on with the word and the operand does so after they are read

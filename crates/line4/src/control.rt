@@ -8,7 +8,7 @@ ghost use Rattle.instructions.specs.Line4.{nop as nop_of, lea as lea_of, pea as 
 
 use address::changes::{acting, done, enter, illegal, jump, push, refused, store};
 use address::operands::{control, extension, operand};
-use manual::{Action, Change, Fault, Got, Reached, Size};
+use manual::{Action, Change, Size};
 use memory::load;
 use word::flags::kept_codes;
 use word::registers::{address, no_write, write_address};
@@ -33,12 +33,12 @@ fn control_address(g: &[u32; 16], at: u32, sr: u16, mem: &[u8], op: u32) -> Way
 {
     let pc = plus(at, 2);
     let target = operand(op / 8 % 8, op % 8);
-    let Reached::At(got) = control(g, mem, pc, target) else {
+    let Some(got) = control(g, mem, pc, target) else {
         return Way::Ends(illegal(at, sr));
     };
     match got {
-        Got::Value(a) => Way::To(a, plus(pc, extension(target, Size::Long))),
-        Got::Fault(x) => Way::Ends(refused(x)),
+        Ok(a) => Way::To(a, plus(pc, extension(target, Size::Long))),
+        Err(x) => Way::Ends(refused(x)),
     }
 }
 
@@ -90,8 +90,8 @@ pub fn rts(g: &[u32; 16], sr: u16, mem: &[u8]) -> Change
 {
     let sp = address(g, 7);
     let v = match load(mem, sp, Size::Long) {
-        Got::Value(v) => v,
-        Got::Fault(x) => return refused(x),
+        Ok(v) => v,
+        Err(x) => return refused(x),
     };
     let codes = kept_codes(sr);
     let popped = write_address(7, plus(sp, 4));
@@ -113,8 +113,8 @@ pub fn link(g: &[u32; 16], at: u32, sr: u16, mem: &[u8], op: u32) -> Change
     let pc = plus(at, 2);
     let sp = minus(address(g, 7), 4);
     let d = match load(mem, pc, Size::Word) {
-        Got::Value(d) => d,
-        Got::Fault(x) => return refused(x),
+        Ok(d) => d,
+        Err(x) => return refused(x),
     };
     let next = plus(pc, 2);
     let codes = kept_codes(sr);
@@ -129,8 +129,8 @@ pub fn unlk(g: &[u32; 16], at: u32, sr: u16, mem: &[u8], op: u32) -> Change
 {
     let a = address(g, op % 8);
     let v = match load(mem, a, Size::Long) {
-        Got::Value(v) => v,
-        Got::Fault(x) => return refused(x),
+        Ok(v) => v,
+        Err(x) => return refused(x),
     };
     let next = plus(at, 2);
     let codes = kept_codes(sr);
@@ -156,8 +156,8 @@ pub fn movem(storing: bool, g: &[u32; 16], at: u32, sr: u16, mem: &[u8], op: u32
     let pc = plus(at, 2);
     let a = address(g, op % 8);
     let mask = match load(mem, pc, Size::Word) {
-        Got::Value(mask) => mask,
-        Got::Fault(x) => return refused(x),
+        Ok(mask) => mask,
+        Err(x) => return refused(x),
     };
     if op / 8 % 8 == 2 {
         return many(storing, sr, plus(pc, 2), mask, a);
@@ -166,8 +166,8 @@ pub fn movem(storing: bool, g: &[u32; 16], at: u32, sr: u16, mem: &[u8], op: u32
         return illegal(at, sr);
     }
     let d = match load(mem, plus(pc, 2), Size::Word) {
-        Got::Value(d) => d,
-        Got::Fault(x) => return refused(x),
+        Ok(d) => d,
+        Err(x) => return refused(x),
     };
     let next = plus(pc, 4);
     many(

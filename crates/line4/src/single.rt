@@ -15,7 +15,7 @@ use address::changes::{done, enter_after, put_to, refused};
 use address::operands::{destination, fetch, source};
 use arith::divide::{overflow_codes, quotient, signed_quotient};
 use arith::multiply::{long_product, signed_long_product};
-use manual::{Change, Fault, Got, Quotient, Size, Write};
+use manual::{Change, Fault, Quotient, Size, Write};
 use memory::load;
 use word::bits::with_bit;
 use word::flags::{extended_codes, move_codes, subtracted, sum_codes};
@@ -137,8 +137,8 @@ pub fn tst(g: &[u32; 16], at: u32, sr: u16, mem: &[u8], op: u32) -> Change
     let from = source(g, mem, plus(at, 2), op, z);
     let got = from.got;
     let v = match got {
-        Got::Value(v) => v,
-        Got::Fault(x) => return refused(x),
+        Ok(v) => v,
+        Err(x) => return refused(x),
     };
     let next = from.next;
     let first = from.moved;
@@ -153,8 +153,8 @@ pub fn tas(g: &[u32; 16], at: u32, sr: u16, mem: &[u8], op: u32) -> Change
     let to = destination(g, mem, plus(at, 2), op, Size::Byte);
     let place = to.place;
     let v = match fetch(g, mem, place, Size::Byte) {
-        Got::Value(v) => v,
-        Got::Fault(x) => return refused(x),
+        Ok(v) => v,
+        Err(x) => return refused(x),
     };
     let codes = move_codes(Size::Byte, v, sr);
     put_to(g, codes, to, Size::Byte, with_bit(7, true, v))
@@ -173,43 +173,42 @@ pub fn product(w: u32, d: u32, v: u32) -> u32
 
 // What products and quotients of longs read: the second word, the operand's value, the next address and the operand's move.
 #[derive(Clone, Copy)]
-pub enum WordAndLong {
-    Read(u32, u32, u32, Write),
-    Fault(Fault),
+pub struct WordAndLong {
+    pub word: u32,
+    pub long: u32,
+    pub next: u32,
+    pub moved: Write,
 }
 
-fn word_and_long(g: &[u32; 16], at: u32, mem: &[u8], op: u32) -> WordAndLong
+fn word_and_long(g: &[u32; 16], at: u32, mem: &[u8], op: u32) -> Result<WordAndLong, Fault>
     ensures { result ≡ word_and_long g.now at (mapped mem.now) op }
 {
     let pc = plus(at, 2);
-    let w = match load(mem, pc, Size::Word) {
-        Got::Value(w) => w,
-        Got::Fault(x) => return WordAndLong::Fault(x),
-    };
+    let word = load(mem, pc, Size::Word)?;
     let from = source(g, mem, plus(pc, 2), op, Size::Long);
-    let got = from.got;
-    let first = from.moved;
-    match got {
-        Got::Value(v) => WordAndLong::Read(w, v, from.next, first),
-        Got::Fault(x) => WordAndLong::Fault(x),
-    }
+    Ok(WordAndLong {
+        word,
+        long: from.got?,
+        next: from.next,
+        moved: from.moved,
+    })
 }
 
 // MULS.L and MULU.L.
 pub fn mul_l(g: &[u32; 16], at: u32, sr: u16, mem: &[u8], op: u32) -> Change
     ensures { result ≡ mul_l g.now at sr (mapped mem.now) op }
 {
-    match word_and_long(g, at, mem, op) {
-        WordAndLong::Read(w, v, next, first) => {
-            let r = product(w, data(g, w / 0x1000 % 8), v);
-            let codes = move_codes(Size::Long, r, sr);
-            done(next, codes, first, write_data(w / 0x1000 % 8, r))
-        }
-        WordAndLong::Fault(x) => refused(x),
-    }
+    let read = match word_and_long(g, at, mem, op) {
+        Ok(read) => read,
+        Err(x) => return refused(x),
+    };
+    let w = read.word;
+    let r = product(w, data(g, w / 0x1000 % 8), read.long);
+    let codes = move_codes(Size::Long, r, sr);
+    done(read.next, codes, read.moved, write_data(w / 0x1000 % 8, r))
 }
 
-fn divided(w: u32, d: u32, v: u32) -> Quotient
+fn divided(w: u32, d: u32, v: u32) -> Option<Quotient>
     ensures { result ≡ divided_of w d v }
 {
     if w / 0x800 % 2 == 1 {
@@ -230,30 +229,23 @@ fn quotient_to(w: u32, q: Quotient) -> Write
     }
 }
 
-fn quotient_done(next: u32, sr: u16, first: Write, w: u32, q: Quotient) -> Change
-    ensures { result ≡ cond q.fits (done_of next (move_codes Long q.quotient sr) first (quotient_to w q)) (done_of next (overflow_codes sr) first no_write) }
-{
-    if q.fits {
-        let codes = move_codes(Size::Long, q.quotient, sr);
-        done(next, codes, first, quotient_to(w, q))
-    } else {
-        let codes = overflow_codes(sr);
-        done(next, codes, first, no_write())
-    }
-}
-
 // DIVS.L, DIVU.L, REMS.L and REMU.L; vector 5 for a divisor of 0.
 pub fn div_l(g: &[u32; 16], at: u32, sr: u16, mem: &[u8], op: u32) -> Change
     ensures { result ≡ div_l g.now at sr (mapped mem.now) op }
 {
-    match word_and_long(g, at, mem, op) {
-        WordAndLong::Read(w, v, next, first) => {
-            if v == 0 {
-                return enter_after(first, sr, 5, next);
-            }
-            let q = divided(w, data(g, w / 0x1000 % 8), v);
-            quotient_done(next, sr, first, w, q)
+    let read = match word_and_long(g, at, mem, op) {
+        Ok(read) => read,
+        Err(x) => return refused(x),
+    };
+    let w = read.word;
+    if read.long == 0 {
+        return enter_after(read.moved, sr, 5, read.next);
+    }
+    match divided(w, data(g, w / 0x1000 % 8), read.long) {
+        Some(q) => {
+            let codes = move_codes(Size::Long, q.quotient, sr);
+            done(read.next, codes, read.moved, quotient_to(w, q))
         }
-        WordAndLong::Fault(x) => refused(x),
+        None => done(read.next, overflow_codes(sr), read.moved, no_write()),
     }
 }

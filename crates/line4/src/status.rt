@@ -7,7 +7,7 @@ ghost use Rattle.instructions.specs.Line4.{rte as rte_of, stop as stop_of, stlds
 
 use address::changes::{acting, done, enter_after, illegal, privilege, refused};
 use address::operands::source;
-use manual::{Action, Change, Fault, Got, Named, Size};
+use manual::{Action, Change, Size};
 use memory::load;
 use state::control::control_register;
 use word::flags::kept_codes;
@@ -39,8 +39,8 @@ pub fn stop(at: u32, sr: u16, mem: &[u8]) -> Change
 {
     let pc = plus(at, 2);
     let v = match load(mem, pc, Size::Word) {
-        Got::Value(v) => v,
-        Got::Fault(x) => return refused(x),
+        Ok(v) => v,
+        Err(x) => return refused(x),
     };
     let next = plus(pc, 2);
     privileged(at, sr, acting(sr, next, no_write(), Action::Stop(v)))
@@ -52,15 +52,15 @@ pub fn stldsr(at: u32, sr: u16, mem: &[u8]) -> Change
 {
     let pc = plus(at, 2);
     let w = match load(mem, pc, Size::Word) {
-        Got::Value(w) => w,
-        Got::Fault(x) => return refused(x),
+        Ok(w) => w,
+        Err(x) => return refused(x),
     };
     if w != 0x46FC {
         return illegal(at, sr);
     }
     let v = match load(mem, plus(pc, 2), Size::Word) {
-        Got::Value(v) => v,
-        Got::Fault(x) => return refused(x),
+        Ok(v) => v,
+        Err(x) => return refused(x),
     };
     let next = plus(pc, 4);
     privileged(at, sr, acting(sr, next, no_write(), Action::PushStatus(v)))
@@ -118,8 +118,8 @@ pub fn move_to_sr(g: &[u32; 16], at: u32, sr: u16, mem: &[u8], op: u32) -> Chang
     let from = source(g, mem, plus(at, 2), op, Size::Word);
     let got = from.got;
     let v = match got {
-        Got::Value(v) => v,
-        Got::Fault(x) => return refused(x),
+        Ok(v) => v,
+        Err(x) => return refused(x),
     };
     let next = from.next;
     let first = from.moved;
@@ -148,8 +148,8 @@ pub fn move_to_ccr(g: &[u32; 16], at: u32, mem: &[u8], op: u32) -> Change
     let from = source(g, mem, plus(at, 2), op, Size::Word);
     let got = from.got;
     let v = match got {
-        Got::Value(v) => v,
-        Got::Fault(x) => return refused(x),
+        Ok(v) => v,
+        Err(x) => return refused(x),
     };
     let next = from.next;
     let first = from.moved;
@@ -162,10 +162,10 @@ pub fn movec(writes: bool, at: u32, sr: u16, mem: &[u8]) -> Change
 {
     let pc = plus(at, 2);
     let w = match load(mem, pc, Size::Word) {
-        Got::Value(w) => w,
-        Got::Fault(outside) => return refused(outside),
+        Ok(w) => w,
+        Err(outside) => return refused(outside),
     };
-    let Named::Control(c) = control_register(w % 0x1000) else {
+    let Some(c) = control_register(w % 0x1000) else {
         return privileged(at, sr, illegal(at, sr));
     };
     let next = plus(pc, 2);

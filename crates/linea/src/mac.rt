@@ -6,7 +6,7 @@ ghost use Rattle.instructions.specs.LineA.{operand as operand_of, accumulating a
 use address::changes::{acting, enter, refused};
 use emac::flags::mode_of;
 use emac::operand::mac_word;
-use manual::{Action, Change, Fault, Got, Size, Write};
+use manual::{Action, Change, Size, Write};
 use memory::load;
 use word::flags::kept_codes;
 use word::registers::{address, general, no_write, write_address, write_general};
@@ -75,8 +75,8 @@ fn mac_load(
 {
     let a = load_address(mask, w, base);
     let v = match load(mem, a, Size::Long) {
-        Got::Value(v) => v,
-        Got::Fault(x) => return refused(x),
+        Ok(v) => v,
+        Err(x) => return refused(x),
     };
     let codes = kept_codes(sr);
     let loaded = write_general(op / 64 % 2 * 8 + op / 512 % 8, v);
@@ -113,8 +113,8 @@ fn mac_with_load(
     }
     if mode == 5 {
         let d = match load(mem, plus(at, 4), Size::Word) {
-            Got::Value(d) => d,
-            Got::Fault(x) => return refused(x),
+            Ok(d) => d,
+            Err(x) => return refused(x),
         };
         let base = plus(a, sign_extended(Size::Word, d));
         return mac_load(g, plus(at, 6), sr, macsr, mask, mem, op, w, base);
@@ -139,8 +139,8 @@ pub(crate) fn mac(
     ensures { result ≡ mac_of g.now at sr macsr mask (mapped mem.now) op }
 {
     let w = match load(mem, plus(at, 2), Size::Word) {
-        Got::Value(w) => w,
-        Got::Fault(x) => return refused(x),
+        Ok(w) => w,
+        Err(x) => return refused(x),
     };
     if op / 16 % 4 == 0 {
         mac_registers(g, at, sr, macsr, op, w)

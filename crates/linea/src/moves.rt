@@ -5,7 +5,7 @@ ghost use Rattle.instructions.specs.LineA.{move_macsr_to_ccr, move_to_general, m
 
 use address::changes::{acting, done, enter_after, put_to, refused};
 use address::operands::{destination, source};
-use manual::{Action, Change, EmacPart, Fault, Got, Size};
+use manual::{Action, Change, EmacPart, Size};
 use word::flags::{codes, kept_codes, move_codes};
 use word::registers::{no_write, write_general};
 use word::word::plus;
@@ -65,8 +65,8 @@ pub(crate) fn move_to_emac(
     let from = source(g, mem, plus(at, 2), op, Size::Long);
     let got = from.got;
     let v = match got {
-        Got::Value(v) => v,
-        Got::Fault(x) => return refused(x),
+        Ok(v) => v,
+        Err(x) => return refused(x),
     };
     let next = from.next;
     let first = from.moved;
@@ -95,7 +95,7 @@ pub(crate) fn unassigned(g: &[u32; 16], at: u32, sr: u16, mem: &[u8], op: u32) -
     let got = from.got;
     let first = from.moved;
     match got {
-        Got::Value(_) => enter_after(first, sr, 10, at),
-        Got::Fault(x) => refused(x),
+        Ok(_) => enter_after(first, sr, 10, at),
+        Err(x) => refused(x),
     }
 }

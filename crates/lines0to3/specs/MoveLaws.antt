@@ -1,10 +1,9 @@
 -- MOVE to Dn is MOVE to any operand: the registers' data part is as it was after the source's move. Assumes nothing.
-use Rattle.std.specs.Prelude.{ℕ, ◌/◌, ◌%◌, ◌≤◌, ◌≡◌, List}
+use Rattle.manual.specs.declared.Fault.{Fault}
+use Rattle.std.specs.Prelude.{ℕ, ◌/◌, ◌%◌, ◌≤◌, ◌≡◌, List, Result, Ok, Err}
 use Rattle.std.proofs.Math.Path.{refl}
 use Rattle.std.proofs.Common.{arith, get_or-set_other, lt-ltb, le-ltb}
 use Rattle.manual.specs.declared.Size.{Size}
-use Rattle.manual.specs.declared.Got.{Got}
-use Rattle.manual.specs.declared.Got.TheVariants.{Value, Fault as NoValue}
 use Rattle.manual.specs.declared.Operand.{Operand}
 use Rattle.manual.specs.declared.Operand.TheVariants.{Data, Address, Indirect, PostIncrement, PreDecrement, Displaced, Indexed, AbsoluteWord, AbsoluteLong, PcDisplaced, PcIndexed, Immediate, Zero}
 use Rattle.manual.specs.declared.Source.{Source}
@@ -81,8 +80,8 @@ module _ (z : Size) (g : List ℕ) (at sr : ℕ) (m : Memory) (op : ℕ) where
   unfolding move move_to_data move_to
   move_data e = by (source g m (plus at 2) op z).got refl
     where
-      by : (x : Got) → (source g m (plus at 2) op z).got ≡ x → move z g at sr m op ≡ move_to_data z g at sr m op
-      by (Value v) q =
+      by : (x : Result ℕ Fault) → (source g m (plus at 2) op z).got ≡ x → move z g at sr m op ≡ move_to_data z g at sr m op
+      by (Ok v) q =
           let from : Source = source g m (plus at 2) op z in
           rw q (rw from_next at (to_data from.moved from.next v e from-moved))
-      by (NoValue x) q = rw q
+      by (Err x) q = rw q

@@ -6,7 +6,7 @@ ghost use Rattle.instructions.specs.Line0.{bitrev as bitrev_of, byterev as byter
 use super::bits::changed_bit;
 use address::changes::{done, illegal, put_to, refused};
 use address::operands::{destination, extension, fetch, value};
-use manual::{Change, Fault, Got, Logic, Operand, Size};
+use manual::{Change, Logic, Operand, Size};
 use memory::load;
 use word::bits::{bit_of, logic, reversed_bits, reversed_bytes};
 use word::flags::{
@@ -59,8 +59,8 @@ pub fn logic_immediate(l: Logic, g: &[u32; 16], at: u32, sr: u16, mem: &[u8], op
 {
     let pc = plus(at, 2);
     let v = match load(mem, pc, Size::Long) {
-        Got::Value(v) => v,
-        Got::Fault(x) => return refused(x),
+        Ok(v) => v,
+        Err(x) => return refused(x),
     };
     let r = logic(l, data(g, op % 8), v);
     let next = plus(pc, 4);
@@ -75,8 +75,8 @@ pub fn sum_immediate(add: bool, g: &[u32; 16], at: u32, mem: &[u8], op: u32) -> 
 {
     let pc = plus(at, 2);
     let v = match load(mem, pc, Size::Long) {
-        Got::Value(v) => v,
-        Got::Fault(x) => return refused(x),
+        Ok(v) => v,
+        Err(x) => return refused(x),
     };
     let r = sum_or_difference(add, Size::Long, v, data(g, op % 8), false);
     let next = plus(pc, 4);
@@ -90,8 +90,8 @@ fn cmpi(z: Size, g: &[u32; 16], at: u32, sr: u16, mem: &[u8], op: u32) -> Change
 {
     let pc = plus(at, 2);
     let v = match value(g, mem, pc, Operand::Immediate, z) {
-        Got::Value(v) => v,
-        Got::Fault(x) => return refused(x),
+        Ok(v) => v,
+        Err(x) => return refused(x),
     };
     let next = plus(pc, extension(Operand::Immediate, z));
     let r = subtracted(z, v, data(g, op % 8), false);
@@ -122,8 +122,8 @@ fn bit_of_byte(g: &[u32; 16], pc: u32, sr: u16, mem: &[u8], op: u32, n: u32) -> 
     let to = destination(g, mem, pc, op, Size::Byte);
     let place = to.place;
     let v = match fetch(g, mem, place, Size::Byte) {
-        Got::Value(v) => v,
-        Got::Fault(x) => return refused(x),
+        Ok(v) => v,
+        Err(x) => return refused(x),
     };
     let was = bit_of(n % 8, v);
     let codes = test_codes(sr, !was);
@@ -155,8 +155,8 @@ fn bit_by_immediate(g: &[u32; 16], at: u32, sr: u16, mem: &[u8], op: u32) -> Cha
     ensures { result ≡ bit_by_immediate g.now at sr (mapped mem.now) op }
 {
     let n = match load(mem, plus(at, 2), Size::Word) {
-        Got::Value(n) => n,
-        Got::Fault(x) => return refused(x),
+        Ok(n) => n,
+        Err(x) => return refused(x),
     };
     bit_operation(g, plus(at, 4), sr, mem, op, n)
 }

@@ -8,7 +8,7 @@ ghost use Rattle.lines0to3.specs.MoveLines.{move_size, movea_row, move_row, move
 
 use address::changes::{done, illegal, put, refused};
 use address::operands::{extension, locate, moved, operand, source};
-use manual::{Change, Fault, Got, Operand, Size, Write};
+use manual::{Change, Operand, Size, Write};
 use word::flags::{kept_codes, move_codes};
 use word::registers::{data, write, write_address, write_data};
 use word::word::{merged, plus, sign_extended};
@@ -48,8 +48,8 @@ fn op_move(z: Size, g: &[u32; 16], at: u32, sr: u16, mem: &[u8], op: u32) -> Cha
     let from = source(g, mem, plus(at, 2), op, z);
     let got = from.got;
     let v = match got {
-        Got::Value(v) => v,
-        Got::Fault(x) => return refused(x),
+        Ok(v) => v,
+        Err(x) => return refused(x),
     };
     let next = from.next;
     let first = from.moved;
@@ -77,8 +77,8 @@ fn movea(z: Size, g: &[u32; 16], at: u32, sr: u16, mem: &[u8], op: u32) -> Chang
     let from = source(g, mem, plus(at, 2), op, z);
     let got = from.got;
     let v = match got {
-        Got::Value(v) => v,
-        Got::Fault(x) => return refused(x),
+        Ok(v) => v,
+        Err(x) => return refused(x),
     };
     let next = from.next;
     let first = from.moved;

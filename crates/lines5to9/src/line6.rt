@@ -4,23 +4,23 @@ ghost use Rattle.manual.specs.Memory.{mapped};
 ghost use Rattle.instructions.specs.Line6.{displacement as displacement_of, displacement_bytes, bra as bra_of, bsr as bsr_of, bcc as bcc_of, line6 as line6_of};
 
 use address::changes::{illegal, jump, push, refused};
-use manual::{Change, Fault, Got, Size};
+use manual::{Change, Fault, Size};
 use memory::load;
 use word::conditions::condition;
 use word::word::{plus, sign_extended};
 
-fn displacement(mem: &[u8], pc: u32, low: u32) -> Got
+fn displacement(mem: &[u8], pc: u32, low: u32) -> Result<u32, Fault>
     ensures { result ≡ displacement_of (mapped mem.now) pc low }
 {
     if low == 0 {
         match load(mem, pc, Size::Word) {
-            Got::Value(v) => Got::Value(sign_extended(Size::Word, v)),
-            Got::Fault(x) => Got::Fault(x),
+            Ok(v) => Ok(sign_extended(Size::Word, v)),
+            Err(x) => Err(x),
         }
     } else if low == 255 {
         load(mem, pc, Size::Long)
     } else {
-        Got::Value(sign_extended(Size::Byte, low))
+        Ok(sign_extended(Size::Byte, low))
     }
 }
 
@@ -42,8 +42,8 @@ pub fn bra(at: u32, sr: u16, mem: &[u8], op: u32) -> Change
 {
     let pc = plus(at, 2);
     let d = match displacement(mem, pc, op % 256) {
-        Got::Value(d) => d,
-        Got::Fault(x) => return refused(x),
+        Ok(d) => d,
+        Err(x) => return refused(x),
     };
     jump(sr, plus(pc, d))
 }
@@ -54,8 +54,8 @@ pub fn bsr(g: &[u32; 16], at: u32, sr: u16, mem: &[u8], op: u32) -> Change
 {
     let pc = plus(at, 2);
     let d = match displacement(mem, pc, op % 256) {
-        Got::Value(d) => d,
-        Got::Fault(x) => return refused(x),
+        Ok(d) => d,
+        Err(x) => return refused(x),
     };
     let target = plus(pc, d);
     push(g, sr, target, plus(pc, displacement_bytes(op % 256)))
@@ -66,8 +66,8 @@ fn bcc(at: u32, sr: u16, mem: &[u8], op: u32) -> Change
 {
     let pc = plus(at, 2);
     let d = match displacement(mem, pc, op % 256) {
-        Got::Value(d) => d,
-        Got::Fault(x) => return refused(x),
+        Ok(d) => d,
+        Err(x) => return refused(x),
     };
     if condition(op / 256, sr) {
         jump(sr, plus(pc, d))

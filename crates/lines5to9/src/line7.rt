@@ -5,7 +5,7 @@ ghost use Rattle.instructions.specs.Line7.{moveq as moveq_of, mvs as mvs_of, mvz
 
 use address::changes::{done, illegal, refused};
 use address::operands::source;
-use manual::{Change, Fault, Got, Size};
+use manual::{Change, Size};
 use word::flags::move_codes;
 use word::registers::{no_write, write_data};
 use word::word::{byte_or_word, plus, sign_extended};
@@ -27,8 +27,8 @@ fn mvs(g: &[u32; 16], at: u32, sr: u16, mem: &[u8], op: u32) -> Change
     let from = source(g, mem, plus(at, 2), op, z);
     let got = from.got;
     let v = match got {
-        Got::Value(v) => v,
-        Got::Fault(x) => return refused(x),
+        Ok(v) => v,
+        Err(x) => return refused(x),
     };
     let next = from.next;
     let first = from.moved;
@@ -43,8 +43,8 @@ fn mvz(g: &[u32; 16], at: u32, sr: u16, mem: &[u8], op: u32) -> Change
     let from = source(g, mem, plus(at, 2), op, byte_or_word(op));
     let got = from.got;
     let v = match got {
-        Got::Value(v) => v,
-        Got::Fault(x) => return refused(x),
+        Ok(v) => v,
+        Err(x) => return refused(x),
     };
     let next = from.next;
     let first = from.moved;

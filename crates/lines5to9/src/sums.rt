@@ -7,7 +7,7 @@ ghost use Rattle.instructions.specs.Rows.{place_in};
 
 use address::changes::{done, illegal, put_to, refused};
 use address::operands::{destination, fetch, source};
-use manual::{Change, Fault, Got, Size};
+use manual::{Change, Size};
 use word::flags::{extended_codes, kept_codes, sum_codes, sum_or_difference};
 use word::registers::{address_after, data, no_write, write_address, write_data};
 use word::word::{merged, minus, plus, sign_extended, size_of};
@@ -20,8 +20,8 @@ pub fn add_to_data(add: bool, g: &[u32; 16], at: u32, mem: &[u8], op: u32) -> Ch
     let from = source(g, mem, plus(at, 2), op, z);
     let got = from.got;
     let v = match got {
-        Got::Value(v) => v,
-        Got::Fault(x) => return refused(x),
+        Ok(v) => v,
+        Err(x) => return refused(x),
     };
     let next = from.next;
     let first = from.moved;
@@ -51,8 +51,8 @@ pub fn add_to_place(
     let to = destination(g, mem, plus(at, 2), op, z);
     let place = to.place;
     let v = match fetch(g, mem, place, z) {
-        Got::Value(v) => v,
-        Got::Fault(x) => return refused(x),
+        Ok(v) => v,
+        Err(x) => return refused(x),
     };
     let r = sum_or_difference(add, z, n, v, false);
     let codes = sum_codes(r);
@@ -80,8 +80,8 @@ pub fn adda(add: bool, z: Size, g: &[u32; 16], at: u32, sr: u16, mem: &[u8], op:
     let from = source(g, mem, plus(at, 2), op, z);
     let got = from.got;
     let v = match got {
-        Got::Value(v) => v,
-        Got::Fault(x) => return refused(x),
+        Ok(v) => v,
+        Err(x) => return refused(x),
     };
     let next = from.next;
     let first = from.moved;

@@ -8,13 +8,13 @@ use super::linec::logic_to_data;
 use address::changes::{done, enter_after, illegal, refused};
 use address::operands::source;
 use arith::divide::{overflow_codes, signed_word_quotient, word_quotient};
-use manual::{Change, Got, Logic, Quotient, Size};
+use manual::{Change, Logic, Quotient, Size};
 use word::flags::move_codes;
 use word::registers::{data, no_write, write_data};
 use word::word::plus;
 
 // The quotient of DIVS.W where `signs`, else of DIVU.W.
-fn word_divided(signs: bool, d: u32, v: u32) -> Quotient
+fn word_divided(signs: bool, d: u32, v: u32) -> Option<Quotient>
     ensures { result ≡ word_divided signs d v }
 {
     if signs {
@@ -30,22 +30,22 @@ fn div_w(signs: bool, g: &[u32; 16], at: u32, sr: u16, mem: &[u8], op: u32) -> C
     let from = source(g, mem, plus(at, 2), op, Size::Word);
     let got = from.got;
     let v = match got {
-        Got::Value(v) => v,
-        Got::Fault(x) => return refused(x),
+        Ok(v) => v,
+        Err(x) => return refused(x),
     };
     let next = from.next;
     let first = from.moved;
     if v == 0 {
         return enter_after(first, sr, 5, next);
     }
-    let q = word_divided(signs, data(g, op / 512 % 8), v);
-    if q.fits {
-        let codes = move_codes(Size::Word, q.quotient, sr);
-        let both = q.remainder % 0x1_0000 * 0x1_0000 + q.quotient % 0x1_0000;
-        return done(next, codes, first, write_data(op / 512 % 8, both));
+    match word_divided(signs, data(g, op / 512 % 8), v) {
+        Some(q) => {
+            let codes = move_codes(Size::Word, q.quotient, sr);
+            let both = q.remainder % 0x1_0000 * 0x1_0000 + q.quotient % 0x1_0000;
+            done(next, codes, first, write_data(op / 512 % 8, both))
+        }
+        None => done(next, overflow_codes(sr), first, no_write()),
     }
-    let codes = overflow_codes(sr);
-    done(next, codes, first, no_write())
 }
 
 // What a word of line 8 changes, taken for the instruction of a row.

@@ -5,7 +5,7 @@ ghost use Rattle.manual.specs.Memory.{mapped};
 
 use address::changes::{done, illegal, put_to, refused};
 use address::operands::{destination, fetch, source};
-use manual::{Change, Got, Logic, Size};
+use manual::{Change, Logic, Size};
 use word::bits::logic;
 use word::flags::{compare_codes, move_codes, subtracted};
 use word::registers::{address_after, data, no_write};
@@ -18,8 +18,8 @@ fn cmp(g: &[u32; 16], at: u32, sr: u16, mem: &[u8], op: u32) -> Change
     let from = source(g, mem, plus(at, 2), op, z);
     let got = from.got;
     let v = match got {
-        Got::Value(v) => v,
-        Got::Fault(x) => return refused(x),
+        Ok(v) => v,
+        Err(x) => return refused(x),
     };
     let next = from.next;
     let first = from.moved;
@@ -34,8 +34,8 @@ fn cmpa(z: Size, g: &[u32; 16], at: u32, sr: u16, mem: &[u8], op: u32) -> Change
     let from = source(g, mem, plus(at, 2), op, z);
     let got = from.got;
     let v = match got {
-        Got::Value(v) => v,
-        Got::Fault(x) => return refused(x),
+        Ok(v) => v,
+        Err(x) => return refused(x),
     };
     let next = from.next;
     let first = from.moved;
@@ -59,8 +59,8 @@ pub(crate) fn logic_to_place(
     let to = destination(g, mem, plus(at, 2), op, z);
     let place = to.place;
     let v = match fetch(g, mem, place, z) {
-        Got::Value(v) => v,
-        Got::Fault(x) => return refused(x),
+        Ok(v) => v,
+        Err(x) => return refused(x),
     };
     let r = logic(l, v, data(g, op / 512 % 8));
     put_to(g, move_codes(z, r, sr), to, z, r)

@@ -7,7 +7,7 @@ use super::lineb::logic_to_place;
 use address::changes::{done, illegal, refused};
 use address::operands::source;
 use arith::multiply::{signed_word_product, word_product};
-use manual::{Change, Got, Logic, Size};
+use manual::{Change, Logic, Size};
 use word::bits::logic;
 use word::flags::move_codes;
 use word::registers::{data, write_data};
@@ -27,8 +27,8 @@ pub(crate) fn logic_to_data(
     let from = source(g, mem, plus(at, 2), op, z);
     let got = from.got;
     let v = match got {
-        Got::Value(v) => v,
-        Got::Fault(x) => return refused(x),
+        Ok(v) => v,
+        Err(x) => return refused(x),
     };
     let next = from.next;
     let first = from.moved;
@@ -60,8 +60,8 @@ fn mul_w(signs: bool, g: &[u32; 16], at: u32, sr: u16, mem: &[u8], op: u32) -> C
     let from = source(g, mem, plus(at, 2), op, Size::Word);
     let got = from.got;
     let v = match got {
-        Got::Value(v) => v,
-        Got::Fault(x) => return refused(x),
+        Ok(v) => v,
+        Err(x) => return refused(x),
     };
     let next = from.next;
     let first = from.moved;

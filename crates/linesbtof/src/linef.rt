@@ -5,7 +5,7 @@ ghost use Rattle.instructions.specs.LineF.{wdebug as wdebug_of, cache_line, wdda
 
 use address::changes::{done, enter, illegal, jump, privilege, refused};
 use address::operands::{control, destination, extension, operand};
-use manual::{Change, Got, Place, Reached, Size};
+use manual::{Change, Size};
 use word::flags::kept_codes;
 use word::registers::no_write;
 use word::word::{plus, size_of};
@@ -15,12 +15,12 @@ fn wdebug(g: &[u32; 16], at: u32, sr: u16, mem: &[u8], op: u32) -> Change
 {
     let target = operand(op / 8 % 8, op % 8);
     let pc = plus(at, 2);
-    let Reached::At(got) = control(g, mem, pc, target) else {
+    let Some(got) = control(g, mem, pc, target) else {
         return jump(sr, plus(pc, 2));
     };
     match got {
-        Got::Value(_) => jump(sr, plus(plus(pc, extension(target, Size::Long)), 2)),
-        Got::Fault(x) => refused(x),
+        Ok(_) => jump(sr, plus(plus(pc, extension(target, Size::Long)), 2)),
+        Err(x) => refused(x),
     }
 }
 
@@ -44,11 +44,8 @@ fn wddata(g: &[u32; 16], at: u32, sr: u16, mem: &[u8], op: u32) -> Change
     let codes = kept_codes(sr);
     let none = no_write();
     match place {
-        Place::D(_) => done(next, codes, first, none),
-        Place::A(_) => done(next, codes, first, none),
-        Place::M(_) => done(next, codes, first, none),
-        Place::I(_) => done(next, codes, first, none),
-        Place::Fault(x) => refused(x),
+        Ok(_) => done(next, codes, first, none),
+        Err(x) => refused(x),
     }
 }
 

@@ -1,4 +1,5 @@
 -- One turn of a run: what a step of each kind does to it, and that the loop's count is the definition's. Assumes nothing.
+use Rattle.std.specs.Prelude.{Result, Ok, Err}
 use Prim.Native.Nat.{ℕ, zero, suc, ◌+◌, ◌-◌, ◌≤◌, ◌<◌}
 use mathlib.Core.Path.{◌≡◌, refl, sym, ap, ◌∙◌}
 use mathlib.Core.Bool.{Bool, true, false, cond}
@@ -11,8 +12,6 @@ use Rattle.manual.specs.declared.Emac.{Emac}
 use Rattle.manual.specs.declared.Size.TheVariants.{Word}
 use Rattle.manual.specs.declared.Fault.{Fault}
 use Rattle.manual.specs.declared.Fault.TheVariants.{Outside}
-use Rattle.manual.specs.declared.Got.{Got}
-use Rattle.manual.specs.declared.Got.TheVariants.{Value, Fault as NoValue}
 use Rattle.manual.specs.declared.Reply.{Reply}
 use Rattle.manual.specs.declared.Reply.TheVariants.{Done, Stopped}
 use Rattle.manual.specs.declared.Change.{Change}
@@ -120,7 +119,7 @@ module _ {b k v : ℕ} {whole : Advance} {g : List ℕ} {pc sr : ℕ} {e : Emac}
   any w c q = rw (t.ready, w, ← q)
 
   -- a word that is not to be had
-  pub unfetched : rest.stopped ≡ false → (x : Fault) (got : Got) → got ≡ load m pc Word → got ≡ NoValue x → (s : Cpu) → s ≡ now
+  pub unfetched : rest.stopped ≡ false → (x : Fault) (got : Result ℕ Fault) → got ≡ load m pc Word → got ≡ Err x → (s : Cpu) → s ≡ now
       → advance (ended_as (fault_reply x) k 0 s) l.storage ≡ whole
   unfolding execute refused refuse perform refusal
   unfetched w x got is f s q = stops b k v whole now l t.inv (refused_as (fault_reply x) s) l.storage t.more (rw q missing) (fault_refused x)
@@ -133,11 +132,11 @@ module _ {b k v : ℕ} {whole : Advance} {g : List ℕ} {pc sr : ℕ} {e : Emac}
 pub record Fetched (b k v : ℕ) (whole : Advance) (g : List ℕ) (pc sr : ℕ) (e : Emac) (rest : Cpu) (l : Lent) (op row : ℕ) : Type 0 where
   pub turn : Turn b k v whole g pc sr e rest l
   pub going : rest.stopped ≡ false
-  pub word : load (memory_of l) pc Word ≡ Value op
+  pub word : load (memory_of l) pc Word ≡ Ok op
   pub is-row : row ≡ row_of op
 
 pub fetched_at : {b k v : ℕ} {whole : Advance} {g : List ℕ} {pc sr : ℕ} {e : Emac} {rest : Cpu} {l : Lent} {op row : ℕ} → Turn b k v whole g pc sr e rest l
-    → rest.stopped ≡ false → load (memory_of l) pc Word ≡ Value op → row ≡ row_of op → Fetched b k v whole g pc sr e rest l op row
+    → rest.stopped ≡ false → load (memory_of l) pc Word ≡ Ok op → row ≡ row_of op → Fetched b k v whole g pc sr e rest l op row
 fetched_at turn going word is-row = record { turn = turn; going = going; word = word; is-row = is-row }
 
 module _ {b k v : ℕ} {whole : Advance} {g : List ℕ} {pc sr : ℕ} {e : Emac} {rest : Cpu} {l : Lent} {op row : ℕ} (t : Fetched b k v whole g pc sr e rest l op row) where

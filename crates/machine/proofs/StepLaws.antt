@@ -1,17 +1,11 @@
 -- A step is a run of one: a step that is refused enters no vector. Assumes nothing.
+use Rattle.std.specs.Prelude.{Result, Option, Ok, Err, None}
+use Rattle.manual.specs.declared.Fault.{Fault}
 use Prim.Native.Nat.{ℕ}
 use mathlib.Core.Path.{◌≡◌, refl, sym, ap, ◌∙◌}
 use mathlib.Core.Bool.{Bool, true, false, cond, false≢true}
 use Rattle.manual.specs.declared.Cpu.{Cpu}
 use Rattle.manual.specs.declared.Size.TheVariants.{Long}
-use Rattle.manual.specs.declared.Level.{Level}
-use Rattle.manual.specs.declared.Level.TheVariants.{Kept}
-use Rattle.manual.specs.declared.Access.{Access}
-use Rattle.manual.specs.declared.Access.TheVariants.{Here, Not}
-use Rattle.manual.specs.declared.Got.{Got}
-use Rattle.manual.specs.declared.Got.TheVariants.{Value, Fault as NoValue}
-use Rattle.manual.specs.declared.Stored.{Stored}
-use Rattle.manual.specs.declared.Stored.TheVariants.{Done as Taken, Fault as NotTaken}
 use Rattle.manual.specs.declared.Reply.{Reply}
 use Rattle.manual.specs.declared.Reply.TheVariants.{Done, Stopped}
 use Rattle.manual.specs.declared.Action.{Action}
@@ -47,19 +41,19 @@ done : (vector : ℕ) → true ≡ false → vector ≡ 0
 done vector h = absurd (false≢true (sym h))
 
 module _ (given : Cpu) (m : Memory) where
-  by-access : (x : Access) (f : ℕ → Outcome) → ((at : ℕ) → NoVector (f at)) → NoVector (accessing given m x f)
-  by-access (Here at) f p = p at
-  by-access (Not x) f p = refused given _ m
+  by-access : (x : Result ℕ Fault) (f : ℕ → Outcome) → ((at : ℕ) → NoVector (f at)) → NoVector (accessing given m x f)
+  by-access (Ok at) f p = p at
+  by-access (Err x) f p = refused given _ m
 
-  by-load : (x : Got) (f : ℕ → Outcome) → ((v : ℕ) → NoVector (f v)) → NoVector (loading given m x f)
-  by-load (Value v) f p = p v
-  by-load (NoValue x) f p = refused given _ m
+  by-load : (x : Result ℕ Fault) (f : ℕ → Outcome) → ((v : ℕ) → NoVector (f v)) → NoVector (loading given m x f)
+  by-load (Ok v) f p = p v
+  by-load (Err x) f p = refused given _ m
 
-  by-store : (x : Stored) (o : Outcome) → NoVector o → NoVector (taking given m x o)
-  by-store Taken o p = p
-  by-store (NotTaken x) o p = refused given _ m
+  by-store : (x : Result Unit Fault) (o : Outcome) → NoVector o → NoVector (taking given m x o)
+  by-store (Ok tt) o p = p
+  by-store (Err x) o p = refused given _ m
 
-  of_entry : (s : Cpu) (level : Level) (n pc : ℕ) → NoVector (entered given s level n pc m)
+  of_entry : (s : Cpu) (level : Option ℕ) (n pc : ℕ) → NoVector (entered given s level n pc m)
   unfolding entered
   of_entry s level n pc =
       let sp : ℕ = address_of (set_sr (handler_sr level s.sr) s).r 7 in
@@ -85,7 +79,7 @@ module _ (given : Cpu) (m : Memory) where
   of_action s (Store a z v) = by-store (storing m a z) _ (done 0)
   of_action s (StoreMany mask a) = by-store (access_many 16 m mask a) _ (done 0)
   of_action s (LoadMany mask a) = by-store (access_many 16 m mask a) _ (done 0)
-  of_action s (Enter vector pc) = of_entry s Kept vector pc
+  of_action s (Enter vector pc) = of_entry s None vector pc
   of_action s Return = of_return s
   of_action s (Status v) = λ h. refl
   of_action s (Stop v) = λ h. refl

@@ -1,11 +1,10 @@
 -- Every step keeps a state admitted: a change names no status register, and each action sets one, or the EMAC, by a definition that
 -- keeps it. Assumes nothing.
-use Rattle.std.specs.Prelude.{◌≡◌, true}
+use Rattle.std.specs.Prelude.{◌≡◌, true, None}
 use Prim.Native.Nat.{ℕ}
 use Rattle.manual.specs.declared.Cpu.{Cpu}
 use Rattle.manual.specs.declared.Emac.{Emac}
 use Rattle.manual.specs.declared.Size.TheVariants.{Long}
-use Rattle.manual.specs.declared.Level.TheVariants.{Kept}
 use Rattle.manual.specs.declared.Action.{Action}
 use Rattle.manual.specs.declared.Action.TheVariants.{Nothing, Store, StoreMany, LoadMany, Enter, Return, Status, Stop, PushStatus, Halt, SetOther, Accumulate, SetAcc, SetExt, SetMacsr, SetMask, CopyAcc, ClearAcc, MoveControl, Refuse}
 use Rattle.manual.specs.declared.Change.{Change}
@@ -39,7 +38,7 @@ module _ (given s : Cpu) (m : Memory) (k : admitted given ≡ true) (h : admitte
   act-admitted (Store a z v) = taking-admitted given m k (storing m a z) _ h
   act-admitted (StoreMany mask a) = taking-admitted given m k (access_many 16 m mask a) _ h
   act-admitted (LoadMany mask a) = taking-admitted given m k (access_many 16 m mask a) _ (registers-admitted (loaded_many 16 m 0 mask a s.r) s h)
-  act-admitted (Enter vector pc) = entered-admitted given m k s Kept vector pc h
+  act-admitted (Enter vector pc) = entered-admitted given m k s None vector pc h
   act-admitted Return = returned-admitted given m k s h
   act-admitted (Status v) = set_sr-admitted v s unit
   act-admitted (Stop v) = stopped_admitted true (set_sr v s) (set_sr-admitted v s unit)

@@ -8,7 +8,7 @@ ghost use Rattle.machine.specs.Completed.{completed_step};
 use emac::accumulators::{clear_acc, copy_acc, set_acc, set_ext, set_macsr, set_mask};
 use emac::sum::accumulate;
 use exceptions::entry::{entered, faulted, refusal, returned};
-use manual::{Action, Change, Cpu, Level, Reply, Size, Stepped, Stored};
+use manual::{Action, Change, Cpu, Reply, Size, Stepped};
 use memory::many::{load_many, store_many};
 use memory::store;
 use state::control::movec;
@@ -35,11 +35,11 @@ fn push_status(given: Cpu, cpu: Cpu, v: u32, mem: &mut [u8]) -> Stepped
     let g = cpu.r;
     let sp = minus(address(&g, 7), 4);
     match store(mem, sp, Size::Long, cpu.sr as u32) {
-        Stored::Done => {
+        Ok(()) => {
             let pushed = with_address(cpu, 7, sp);
             completed(with_status(pushed, v))
         }
-        Stored::Fault(x) => faulted(given, x),
+        Err(x) => faulted(given, x),
     }
 }
 
@@ -54,25 +54,25 @@ pub fn perform(given: Cpu, change: Change, mem: &mut [u8]) -> Stepped
         Action::Nothing => completed(cpu),
         Action::Store(a, z, v) => {
             match store(mem, a, z, v) {
-                Stored::Done => completed(cpu),
-                Stored::Fault(x) => faulted(given, x),
+                Ok(()) => completed(cpu),
+                Err(x) => faulted(given, x),
             }
         }
         Action::StoreMany(mask, a) => {
             let g = cpu.r;
             match store_many(mem, &g, mask, a) {
-                Stored::Done => completed(cpu),
-                Stored::Fault(x) => faulted(given, x),
+                Ok(()) => completed(cpu),
+                Err(x) => faulted(given, x),
             }
         }
         Action::LoadMany(mask, a) => {
             let mut g = cpu.r;
             match load_many(&*mem, &mut g, mask, a) {
-                Stored::Done => completed(with_registers(cpu, g)),
-                Stored::Fault(x) => faulted(given, x),
+                Ok(()) => completed(with_registers(cpu, g)),
+                Err(x) => faulted(given, x),
             }
         }
-        Action::Enter(vector, pc) => entered(given, cpu, Level::Kept, vector, pc, mem),
+        Action::Enter(vector, pc) => entered(given, cpu, None, vector, pc, mem),
         Action::Return => returned(given, cpu, &*mem),
         Action::Status(v) => completed(with_status(cpu, v)),
         Action::Stop(v) => completed(with_stopped(with_status(cpu, v), true)),

@@ -12,7 +12,7 @@ ghost use Rattle.machine.specs.Advance.{advance, ended_as, progress};
 use super::Progress;
 use super::turn::{performed, plain};
 use exceptions::entry::refusal;
-use manual::{Cpu, Emac, Got, Ran, Reply, Size, Stepped};
+use manual::{Cpu, Emac, Ran, Reply, Size, Stepped};
 use memory::load;
 use quick::{in_place, summed};
 use quick_bodies::mac::Summed;
@@ -73,8 +73,8 @@ fn advanced(top: &[u8], given: Cpu, mem: &mut [u8], budget: u32) -> Progress
             return ended(Reply::Stopped, n, 0, last);
         }
         let op = match load(&*mem, pc, Size::Word) {
-            Got::Value(op) => op,
-            Got::Fault(x) => {
+            Ok(op) => op,
+            Err(x) => {
                 let last = assembled(rest, g, pc, sr, macsr, mask, acc);
                 return ended(fault_reply(x), n, 0, last);
             }

@@ -1,12 +1,12 @@
 -- Effective addresses. The manual: "Effective Addressing Modes" and "Effective Addressing Mode Summary".
-use Rattle.std.specs.Prelude.{ℕ, ◌*◌, ◌%◌, ◌^◌}
+use Rattle.manual.specs.declared.Fault.{Fault}
+use Rattle.std.specs.Prelude.{ℕ, ◌*◌, ◌%◌, ◌^◌, Result, Option, Ok, Err, Some, None}
 use mathlib.Core.{Bool.cond, List.List, List.[], List.◌∷◌}
 use lib.{ListN.get_or}
-use Rattle.manual.specs.declared.{Source.Source, Destination.Destination, Size.Size, Size.TheVariants.Byte, Size.TheVariants.Word, Size.TheVariants.Long, Got.Got, Got.TheVariants.Value, Got.TheVariants.Fault as NoValue}
+use Rattle.manual.specs.declared.{Source.Source, Destination.Destination, Size.Size, Size.TheVariants.Byte, Size.TheVariants.Word, Size.TheVariants.Long}
 use Rattle.manual.specs.declared.{Operand.Operand, Operand.TheVariants.Data, Operand.TheVariants.Address, Operand.TheVariants.Indirect, Operand.TheVariants.PostIncrement, Operand.TheVariants.PreDecrement}
 use Rattle.manual.specs.declared.{Operand.TheVariants.Displaced, Operand.TheVariants.Indexed, Operand.TheVariants.AbsoluteWord, Operand.TheVariants.AbsoluteLong, Operand.TheVariants.PcDisplaced, Operand.TheVariants.PcIndexed}
-use Rattle.manual.specs.declared.{Operand.TheVariants.Immediate, Operand.TheVariants.Zero, Place.Place, Write.Write, Place.TheVariants.D, Place.TheVariants.A, Place.TheVariants.M, Place.TheVariants.I, Place.TheVariants.Fault}
-use Rattle.manual.specs.declared.{Reached.Reached, Reached.TheVariants.At, Reached.TheVariants.NoAddress}
+use Rattle.manual.specs.declared.{Operand.TheVariants.Immediate, Operand.TheVariants.Zero, Place.Place, Write.Write, Place.TheVariants.D, Place.TheVariants.A, Place.TheVariants.M, Place.TheVariants.I}
 use Rattle.manual.specs.{Word.plus, Word.minus, Word.sign_extended, Word.bytes, Word.cut, Registers.data_of, Registers.address_of, Registers.general, Registers.no_write, Registers.write_address, Memory.Memory, Memory.load, Bits.bit_of}
 use Rattle.manual.specs.{Fields.mode, Fields.register, Fields.high_four, Differences.word_index, Differences.index_scale, Differences.reserved_operand, Differences.byte_of_address}
 
@@ -59,9 +59,9 @@ extension Zero z = 0
 
 -- the place made of a number that was read, if it was
 infixl 20 ◌then◌
-abbrev pub ◌then◌ : Got → (ℕ → Place) → Place
-Value v then f = f v
-NoValue x then f = Fault x
+abbrev pub ◌then◌ : Result ℕ Fault → (ℕ → Place) → Result Place Fault
+Ok v then f = Ok (f v)
+Err x then f = Err x
 
 -- the index register of a brief extension word, scaled
 unfoldable pub index : List ℕ → ℕ → ℕ
@@ -75,18 +75,18 @@ unfoldable pub indexed : List ℕ → ℕ → ℕ → ℕ
 indexed g base w = plus (plus base (sign_extended Byte w)) (index g w)
 
 -- a byte's immediate is the low byte of a word
-unfoldable pub immediate : Memory → ℕ → Size → Place
+unfoldable pub immediate : Memory → ℕ → Size → Result Place Fault
 immediate m pc Byte = load m pc Word then λ w. I (w % 0x100)
 immediate m pc Word = load m pc Word then λ w. I w
 immediate m pc Long = load m pc Long then λ w. I w
 
 -- the place of an operand of a size, its extension words being at pc
-unfoldable pub locate : List ℕ → Memory → ℕ → Operand → Size → Place
-locate g m pc (Data r) z = D r
-locate g m pc (Address r) z = A r
-locate g m pc (Indirect r) z = M (address_of g r)
-locate g m pc (PostIncrement r) z = M (address_of g r)
-locate g m pc (PreDecrement r) z = M (minus (address_of g r) (bytes z))
+unfoldable pub locate : List ℕ → Memory → ℕ → Operand → Size → Result Place Fault
+locate g m pc (Data r) z = Ok (D r)
+locate g m pc (Address r) z = Ok (A r)
+locate g m pc (Indirect r) z = Ok (M (address_of g r))
+locate g m pc (PostIncrement r) z = Ok (M (address_of g r))
+locate g m pc (PreDecrement r) z = Ok (M (minus (address_of g r) (bytes z)))
 locate g m pc (Displaced r) z = load m pc Word then λ w. M (plus (address_of g r) (sign_extended Word w))
 locate g m pc (Indexed r) z = load m pc Word then λ w. M (indexed g (address_of g r) w)
 locate g m pc AbsoluteWord z = load m pc Word then λ w. M (sign_extended Word w)
@@ -94,7 +94,7 @@ locate g m pc AbsoluteLong z = load m pc Long then λ w. M w
 locate g m pc PcDisplaced z = load m pc Word then λ w. M (plus pc (sign_extended Word w))
 locate g m pc PcIndexed z = load m pc Word then λ w. M (indexed g pc w)
 locate g m pc Immediate z = immediate m pc z
-locate g m pc Zero z = I 0
+locate g m pc Zero z = Ok (I 0)
 
 -- (An)+ and -(An) move their register
 unfoldable pub moved : List ℕ → Operand → Size → Write
@@ -119,40 +119,40 @@ part_of_address Word a = cut Word a
 part_of_address Long a = cut Long a
 
 -- what stands at a place
-unfoldable pub fetch : List ℕ → Memory → Place → Size → Got
-fetch g m (D r) z = Value (cut z (data_of g r))
-fetch g m (A r) z = Value (part_of_address z (address_of g r))
-fetch g m (M a) z = load m a z
-fetch g m (I v) z = Value (cut z v)
-fetch g m (Fault x) z = NoValue x
+unfoldable pub fetch : List ℕ → Memory → Result Place Fault → Size → Result ℕ Fault
+fetch g m (Ok (D r)) z = Ok (cut z (data_of g r))
+fetch g m (Ok (A r)) z = Ok (part_of_address z (address_of g r))
+fetch g m (Ok (M a)) z = load m a z
+fetch g m (Ok (I v)) z = Ok (cut z v)
+fetch g m (Err x) z = Err x
 
 -- the value of an operand
-unfoldable pub value : List ℕ → Memory → ℕ → Operand → Size → Got
+unfoldable pub value : List ℕ → Memory → ℕ → Operand → Size → Result ℕ Fault
 value g m pc o z = fetch g m (locate g m pc o z) z
 
 -- the address of a place in memory
-abbrev pub reached : Place → Reached
-reached (D r) = NoAddress
-reached (A r) = NoAddress
-reached (M a) = At (Value a)
-reached (I v) = NoAddress
-reached (Fault x) = At (NoValue x)
+abbrev pub reached : Result Place Fault → Option (Result ℕ Fault)
+reached (Ok (D r)) = None
+reached (Ok (A r)) = None
+reached (Ok (M a)) = Some (Ok a)
+reached (Ok (I v)) = None
+reached (Err x) = Some (Err x)
 
 -- the address of a control mode
-unfoldable pub control : List ℕ → Memory → ℕ → Operand → Reached
-control g m pc (Data r) = NoAddress
-control g m pc (Address r) = NoAddress
+unfoldable pub control : List ℕ → Memory → ℕ → Operand → Option (Result ℕ Fault)
+control g m pc (Data r) = None
+control g m pc (Address r) = None
 control g m pc (Indirect r) = reached (locate g m pc (Indirect r) Long)
-control g m pc (PostIncrement r) = NoAddress
-control g m pc (PreDecrement r) = NoAddress
+control g m pc (PostIncrement r) = None
+control g m pc (PreDecrement r) = None
 control g m pc (Displaced r) = reached (locate g m pc (Displaced r) Long)
 control g m pc (Indexed r) = reached (locate g m pc (Indexed r) Long)
 control g m pc AbsoluteWord = reached (locate g m pc AbsoluteWord Long)
 control g m pc AbsoluteLong = reached (locate g m pc AbsoluteLong Long)
 control g m pc PcDisplaced = reached (locate g m pc PcDisplaced Long)
 control g m pc PcIndexed = reached (locate g m pc PcIndexed Long)
-control g m pc Immediate = NoAddress
-control g m pc Zero = NoAddress
+control g m pc Immediate = None
+control g m pc Zero = None
 
 -- all that is read of the operand that bits 5 to 0 of a word name, its extension words being at pc
 -- 27. Every instruction takes every mode. The manual: each has a list of its own, shorter for MUL.L, DIV.L and bit operations

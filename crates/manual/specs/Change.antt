@@ -1,8 +1,8 @@
 -- What an instruction can change, and the parts that the instructions' definitions are made of.
-use Rattle.std.specs.Prelude.{ℕ}
+use Rattle.std.specs.Prelude.{ℕ, Result, Option, Ok, Err, Some, None}
 use mathlib.Core.{List.List}
-use Rattle.manual.specs.declared.{Size.Size, Fault.Fault, Got.Got, Got.TheVariants.Value, Got.TheVariants.Fault as NoValue, Place.Place, Place.TheVariants.D, Place.TheVariants.A, Place.TheVariants.M, Place.TheVariants.I}
-use Rattle.manual.specs.declared.{Place.TheVariants.Fault as NoPlace, Reached.Reached, Reached.TheVariants.At, Reached.TheVariants.NoAddress, Write.Write, Source.Source, Destination.Destination, Reply.Reply}
+use Rattle.manual.specs.declared.{Size.Size, Fault.Fault, Place.Place, Place.TheVariants.D, Place.TheVariants.A, Place.TheVariants.M, Place.TheVariants.I}
+use Rattle.manual.specs.declared.{Write.Write, Source.Source, Destination.Destination, Reply.Reply}
 use Rattle.manual.specs.declared.{Action.Action, Action.TheVariants.Nothing, Action.TheVariants.Store, Action.TheVariants.Enter, Action.TheVariants.Refuse, Change.Change, Size.TheVariants.Long}
 use Rattle.manual.specs.{Word.merged, Word.minus, Registers.data_of, Registers.address_of, Registers.no_write, Registers.write_data, Registers.write_address, Flags.kept_codes, Memory.Memory, Address.fetch, Address.source}
 use Rattle.manual.specs.{Address.destination, Reply.fault_reply, Differences.store_to_address, Differences.store_to_immediate}
@@ -51,31 +51,31 @@ push g sr next v =
     store next (kept_codes sr) (write_address 7 sp) no_write sp Long v
 
 -- goes on with a number that was read, if it was
-abbrev pub reading : Got → (ℕ → Change) → Change
-reading (Value v) f = f v
-reading (NoValue x) f = refused x
+abbrev pub reading : Result ℕ Fault → (ℕ → Change) → Change
+reading (Ok v) f = f v
+reading (Err x) f = refused x
 
 -- goes on with the address of a control mode; a mode that has none is an illegal instruction
-abbrev pub reaching : ℕ → ℕ → Reached → (ℕ → Change) → Change
-reaching sr at (At got) f = reading got f
-reaching sr at NoAddress f = illegal at sr
+abbrev pub reaching : ℕ → ℕ → Option (Result ℕ Fault) → (ℕ → Change) → Change
+reaching sr at (Some got) f = reading got f
+reaching sr at None f = illegal at sr
 
 -- goes on where a place was found, whatever it is
-abbrev pub locating : Place → Change → Change
-locating (D r) c = c
-locating (A r) c = c
-locating (M a) c = c
-locating (I v) c = c
-locating (NoPlace x) c = refused x
+abbrev pub locating : Result Place Fault → Change → Change
+locating (Ok (D r)) c = c
+locating (Ok (A r)) c = c
+locating (Ok (M a)) c = c
+locating (Ok (I v)) c = c
+locating (Err x) c = refused x
 
 -- a value of a size goes to a place, g being the registers after the first write: c is the change but for that.
 -- A data register keeps its other bits. A register's operand moves no address register, so the register takes the second write
-unfoldable pub put : List ℕ → Size → ℕ → Place → Change → Change
-put g z v (D r) c = done c.pc c.ccr c.first (write_data r (merged z (data_of g r) v))
-put g z v (A r) c = store_to_address r v c
-put g z v (M a) c = store c.pc c.ccr c.first c.second a z v
-put g z v (I i) c = store_to_immediate c
-put g z v (NoPlace x) c = refused x
+unfoldable pub put : List ℕ → Size → ℕ → Result Place Fault → Change → Change
+put g z v (Ok (D r)) c = done c.pc c.ccr c.first (write_data r (merged z (data_of g r) v))
+put g z v (Ok (A r)) c = store_to_address r v c
+put g z v (Ok (M a)) c = store c.pc c.ccr c.first c.second a z v
+put g z v (Ok (I i)) c = store_to_immediate c
+put g z v (Err x) c = refused x
 
 -- a value of a size goes to the operand that a word names, whose register moves
 unfoldable pub put_to : List ℕ → ℕ → Destination → Size → ℕ → Change
@@ -94,13 +94,13 @@ reading_place g m pc op z f =
     reading (fetch g m to.place z) λ v. f to v
 
 -- condition codes and a value, made of an operand's value
-pub record Result : Type 0 where
+pub record Updated : Type 0 where
   pub codes : ℕ
   pub value : ℕ
 
-abbrev pub result : ℕ → ℕ → Result
-result codes v = record { codes = codes; value = v }
+abbrev pub updated : ℕ → ℕ → Updated
+updated codes v = record { codes = codes; value = v }
 
 -- the operand that a word names is read, and what f makes of its value goes back to it
-abbrev pub updating : List ℕ → Memory → ℕ → ℕ → Size → (ℕ → Result) → Change
+abbrev pub updating : List ℕ → Memory → ℕ → ℕ → Size → (ℕ → Updated) → Change
 updating g m pc op z f = reading_place g m pc op z λ to v. put_to g (f v).codes to z (f v).value

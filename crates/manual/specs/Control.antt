@@ -1,15 +1,15 @@
 -- The control registers, and what MOVEC moves between one of them and a general register.
 -- The manual: "Supervisor Programming Model" and MOVEC.
-use Rattle.std.specs.Prelude.{ℕ, ◌*◌, ◌/◌}
+use Rattle.std.specs.Prelude.{ℕ, ◌*◌, ◌/◌, Option, Some, None}
 use mathlib.Core.{Bool.Bool, Bool.true, Bool.false, Bool.cond}
 use lib.{Dec.eqb}
-use Rattle.manual.specs.declared.{Cpu.Cpu, ControlRegister.ControlRegister, ControlRegister.TheVariants.Cacr, ControlRegister.TheVariants.Vbr, Named.Named, Named.TheVariants.Control, Named.TheVariants.Unknown}
+use Rattle.manual.specs.declared.{Cpu.Cpu, ControlRegister.ControlRegister, ControlRegister.TheVariants.Cacr, ControlRegister.TheVariants.Vbr}
 use Rattle.manual.specs.{Registers.general, Registers.write_general, Registers.written, Registers.with_registers, Registers.with_vbr, Registers.with_cacr}
 
 -- Rc by its number
 -- 60. CACR and VBR are all there is. The manual: a device has further ones, and the original keeps a long for every other number
-unfoldable pub control_register : ℕ → Named
-control_register n = cond (eqb n 0x002) (Control Cacr) (cond (eqb n 0x801) (Control Vbr) Unknown)
+unfoldable pub control_register : ℕ → Option ControlRegister
+control_register n = cond (eqb n 0x002) (Some Cacr) (cond (eqb n 0x801) (Some Vbr) None)
 
 -- what is read of it
 unfoldable pub movec_read : ControlRegister → Cpu → ℕ

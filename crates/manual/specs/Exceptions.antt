@@ -1,9 +1,10 @@
 -- Exceptions: entry, return, interrupts, and the calls on the stack and the status register.
 -- The manual: "Exception Processing Overview", "Exception Stack Frame Definition" and RTE.
-use Rattle.std.specs.Prelude.{ℕ, ◌+◌, ◌*◌, ◌/◌, ◌%◌}
+use Rattle.manual.specs.declared.Fault.{Fault}
+use Rattle.std.specs.Prelude.{ℕ, ◌+◌, ◌*◌, ◌/◌, ◌%◌, Result, Option, Ok, Err, Some, None}
 use mathlib.Core.{Bool.Bool, Bool.true, Bool.false, Bool.cond, Bool.not, Bool.◌&&◌, Bool.beq}
 use lib.{Dec.ltb, Dec.leb}
-use Rattle.manual.specs.declared.{Cpu.Cpu, Size.TheVariants.Long, Got.Got, Got.TheVariants.Value, Got.TheVariants.Fault as NoValue, Level.Level, Level.TheVariants.Kept, Level.TheVariants.To, Reply.Reply, Reply.TheVariants.Done}
+use Rattle.manual.specs.declared.{Cpu.Cpu, Size.TheVariants.Long, Reply.Reply, Reply.TheVariants.Done}
 use Rattle.manual.specs.declared.{Reply.TheVariants.NotAdmitted, Reply.TheVariants.OutOfRange, Reply.TheVariants.Masked, Answer.Answer, Told.Told, Popped.Popped}
 use Rattle.manual.specs.{Word.bit, Word.plus, Word.minus, Bits.bit_of, Bits.with_bit, Fields.bits, Registers.address_of, Registers.with_address, Registers.with_pc, Registers.with_sr, Registers.with_other, Registers.with_stopped}
 use Rattle.manual.specs.{Memory.Storage, Memory.Memory, Memory.storage_of, Memory.value_at, Memory.store_at, Memory.access, Memory.load, Memory.storing, Memory.stored, Reply.Outcome, Reply.completed, Reply.unchanged, Reply.fault_reply}
@@ -36,9 +37,9 @@ abbrev pub with_mask : ℕ → ℕ → ℕ
 with_mask sr mask = sr / 0x800 * 0x800 + mask + sr % 0x100
 
 -- the status register in a handler: S is set and T cleared; an interrupt sets the mask to its level too
-unfoldable pub handler_sr : Level → ℕ → ℕ
-handler_sr Kept sr = with_bit 13 true (with_bit 15 false sr)
-handler_sr (To level) sr = with_mask (kept_m (with_bit 13 true (with_bit 15 false sr))) (given_level level)
+unfoldable pub handler_sr : Option ℕ → ℕ → ℕ
+handler_sr None sr = with_bit 13 true (with_bit 15 false sr)
+handler_sr (Some level) sr = with_mask (kept_m (with_bit 13 true (with_bit 15 false sr))) (given_level level)
 
 -- ---- the frame: two longs at a multiple of 4, the lower one with the format, the vector and the status register
 
@@ -63,7 +64,7 @@ handler_state t frame handler = with_stopped false (with_pc handler (with_addres
 
 -- ---- entry, from the registers s; `given` are those of a refusal. The frame is stored and then the vector read, so that a
 -- frame over the vector's place is what is read. All three accesses are tested first
-unfoldable pub entered : Cpu → Cpu → Level → ℕ → ℕ → Memory → Outcome
+unfoldable pub entered : Cpu → Cpu → Option ℕ → ℕ → ℕ → Memory → Outcome
 entered given s level vector pc m =
     let t : Cpu = set_sr (handler_sr level s.sr) s in
     let sp : ℕ = address_of t.r 7 in
@@ -87,11 +88,11 @@ returned given s m =
 
 -- ---- the calls
 
-abbrev pub level_taken : Level → Bool
-level_taken Kept = true
-level_taken (To level) = ltb level 8
+abbrev pub level_taken : Option ℕ → Bool
+level_taken None = true
+level_taken (Some level) = ltb level 8
 
-unfoldable pub exception : Cpu → Lent → ℕ → ℕ → Level → Outcome
+unfoldable pub exception : Cpu → Lent → ℕ → ℕ → Option ℕ → Outcome
 exception s l vector pc level =
     let m : Memory = memory_of l in
     checked s l (cond (level_taken level) (entered s s level vector pc m) (unchanged s OutOfRange m))
@@ -106,7 +107,7 @@ interrupt s l vector level =
     let m : Memory = memory_of l in
     checked s l
     (cond (ltb level 8)
-    (cond (masked s.sr level) (unchanged s Masked m) (entered s s (To level) vector s.pc m))
+    (cond (masked s.sr level) (unchanged s Masked m) (entered s s (Some level) vector s.pc m))
     (unchanged s OutOfRange m))
 
 unfoldable pub rte : Cpu → Lent → Outcome
@@ -123,9 +124,9 @@ abbrev pub not_popped : Cpu → Reply → Popped
 not_popped s n = record { reply = n; value = 0; cpu = s }
 
 -- the long at A7, which goes up by 4
-abbrev pub popped : Cpu → ℕ → Got → Popped
-popped s sp (Value v) = record { reply = Done; value = v; cpu = with_address 7 (plus sp 4) s }
-popped s sp (NoValue x) = not_popped s (fault_reply x)
+abbrev pub popped : Cpu → ℕ → Result ℕ Fault → Popped
+popped s sp (Ok v) = record { reply = Done; value = v; cpu = with_address 7 (plus sp 4) s }
+popped s sp (Err x) = not_popped s (fault_reply x)
 
 unfoldable pub pop32 : Cpu → Lent → Popped
 pop32 s l =

@@ -1,11 +1,11 @@
 -- Memory: storage, a list of bytes that is lent, as addresses reach it. Numbers are big-endian, at any address.
 -- The manual: "Organization of Data in Memory". An access of n bytes at a is inside exactly when a + n is at most the length.
 -- Everything else asks for an access here, and knows neither where its bytes lie nor how long storage is.
-use Rattle.std.specs.Prelude.{ℕ, zero, suc, ◌+◌, ◌*◌, ◌/◌, ◌%◌}
+use Rattle.manual.specs.declared.Fault.{Fault}
+use Rattle.std.specs.Prelude.{ℕ, zero, suc, ◌+◌, ◌*◌, ◌/◌, ◌%◌, Result, Ok, Err}
 use mathlib.Core.{Bool.Bool, Bool.cond, List.List}
 use lib.{Dec.leb, Dec.eqb, ListN.length, ListN.get_or, ListN.set}
-use Rattle.manual.specs.declared.{Size.Size, Size.TheVariants.Long, Fault.TheVariants.Outside, Access.Access, Access.TheVariants.Here, Access.TheVariants.Not, Got.Got, Got.TheVariants.Value, Got.TheVariants.Fault, Stored.Stored}
-use Rattle.manual.specs.declared.{Stored.TheVariants.Done, Stored.TheVariants.Fault as NotStored}
+use Rattle.manual.specs.declared.{Size.Size, Size.TheVariants.Long, Fault.TheVariants.Outside}
 use Rattle.manual.specs.{Word.bytes, Word.plus, Registers.general}
 
 -- the bytes that are lent, by place
@@ -43,56 +43,56 @@ store_at s at (suc n) v = store_at (set s (at + n) (v % 256)) at n (v / 256)
 abbrev pub inside : Memory → ℕ → ℕ → Bool
 inside m a n = leb (a + n) (length (storage_of m))
 
-unfoldable pub access : Memory → ℕ → ℕ → Access
-access m a n = cond (inside m a n) (Here a) (Not Outside)
+unfoldable pub access : Memory → ℕ → ℕ → Result ℕ Fault
+access m a n = cond (inside m a n) (Ok a) (Err Outside)
 
 -- ---- a number that is read
 
-abbrev pub found : Storage → Size → Access → Got
-found s z (Here at) = Value (value_at s at (bytes z))
-found s z (Not x) = Fault x
+abbrev pub found : Storage → Size → Result ℕ Fault → Result ℕ Fault
+found s z (Ok at) = Ok (value_at s at (bytes z))
+found s z (Err x) = Err x
 
-unfoldable pub load : Memory → ℕ → Size → Got
+unfoldable pub load : Memory → ℕ → Size → Result ℕ Fault
 load m a z = found (storage_of m) z (access m a (bytes z))
 
 -- the number that was read, or 0
-abbrev pub number_in : Got → ℕ
-number_in (Value v) = v
-number_in (Fault x) = 0
+abbrev pub number_in : Result ℕ Fault → ℕ
+number_in (Ok v) = v
+number_in (Err x) = 0
 
 abbrev pub number_at : Memory → ℕ → Size → ℕ
 number_at m a z = number_in (load m a z)
 
 -- ---- a number that is stored: what the store answers, and storage after it
 
-abbrev pub taken : Access → Stored
-taken (Here at) = Done
-taken (Not x) = NotStored x
+abbrev pub taken : Result ℕ Fault → Result Unit Fault
+taken (Ok at) = (Ok tt)
+taken (Err x) = Err x
 
-abbrev pub stored_in : Storage → Size → ℕ → Access → Storage
-stored_in s z v (Here at) = store_at s at (bytes z) v
-stored_in s z v (Not x) = s
+abbrev pub stored_in : Storage → Size → ℕ → Result ℕ Fault → Storage
+stored_in s z v (Ok at) = store_at s at (bytes z) v
+stored_in s z v (Err x) = s
 
-unfoldable pub storing : Memory → ℕ → Size → Stored
+unfoldable pub storing : Memory → ℕ → Size → Result Unit Fault
 storing m a z = taken (access m a (bytes z))
 
 unfoldable pub stored : Memory → ℕ → Size → ℕ → Storage
 stored m a z v = stored_in (storage_of m) z v (access m a (bytes z))
 
 -- one thing where memory took it all, else another
-abbrev pub if_taken : Stored → List ℕ → List ℕ → List ℕ
-if_taken Done x y = x
-if_taken (NotStored f) x y = y
+abbrev pub if_taken : Result Unit Fault → List ℕ → List ℕ → List ℕ
+if_taken (Ok tt) x y = x
+if_taken (Err f) x y = y
 
 -- ---- the registers of a mask, D0 lowest, as longs one after the other: `left` of them are still to come, from number n on
 
 -- one access and those after it: the first fault, if any
-abbrev pub first_fault : Access → Stored → Stored
-first_fault (Here at) rest = rest
-first_fault (Not x) rest = NotStored x
+abbrev pub first_fault : Result ℕ Fault → Result Unit Fault → Result Unit Fault
+first_fault (Ok at) rest = rest
+first_fault (Err x) rest = Err x
 
-unfoldable pub access_many : ℕ → Memory → ℕ → ℕ → Stored
-access_many zero m mask at = Done
+unfoldable pub access_many : ℕ → Memory → ℕ → ℕ → Result Unit Fault
+access_many zero m mask at = (Ok tt)
 access_many (suc left) m mask at =
     cond (eqb (mask % 2) 1)
     (first_fault (access m at 4) (access_many left m (mask / 2) (plus at 4)))

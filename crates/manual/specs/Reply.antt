@@ -1,9 +1,9 @@
 -- The answers: what number each reply has, and what a call hands back with memory. Document: "Numbered replies".
-use Rattle.std.specs.Prelude.{ℕ}
+use Rattle.std.specs.Prelude.{ℕ, Result, Ok, Err}
 use mathlib.Core.{Bool.Bool}
 use lib.{Dec.eqb}
-use Rattle.manual.specs.declared.{Fault.Fault, Fault.TheVariants.Outside, Access.Access, Access.TheVariants.Here, Access.TheVariants.Not, Got.Got, Got.TheVariants.Value, Got.TheVariants.Fault as NoValue, Stored.Stored}
-use Rattle.manual.specs.declared.{Stored.TheVariants.Done as Taken, Stored.TheVariants.Fault as NotTaken, Cpu.Cpu, Reply.Reply, Reply.TheVariants.Done, Reply.TheVariants.TooLong, Reply.TheVariants.NotAdmitted}
+use Rattle.manual.specs.declared.{Fault.Fault, Fault.TheVariants.Outside}
+use Rattle.manual.specs.declared.{Cpu.Cpu, Reply.Reply, Reply.TheVariants.Done, Reply.TheVariants.TooLong, Reply.TheVariants.NotAdmitted}
 use Rattle.manual.specs.declared.{Reply.TheVariants.Stopped, Reply.TheVariants.NotInside, Reply.TheVariants.NotCarried, Reply.TheVariants.OutOfRange, Reply.TheVariants.Masked, Reply.TheVariants.WrongVersion}
 use Rattle.manual.specs.declared.{Reply.TheVariants.WrongLength, Stepped.Stepped}
 use Rattle.manual.specs.{Memory.Storage, Memory.Memory, Memory.storage_of}
@@ -51,16 +51,16 @@ unchanged given n m = record { stepped = refusal given n; storage = storage_of m
 -- ---- going on, or a refusal with the fault's reply
 
 -- at the place where an access lies
-abbrev pub accessing : Cpu → Memory → Access → (ℕ → Outcome) → Outcome
-accessing given m (Here at) f = f at
-accessing given m (Not x) f = unchanged given (fault_reply x) m
+abbrev pub accessing : Cpu → Memory → Result ℕ Fault → (ℕ → Outcome) → Outcome
+accessing given m (Ok at) f = f at
+accessing given m (Err x) f = unchanged given (fault_reply x) m
 
 -- with the number that was read
-abbrev pub loading : Cpu → Memory → Got → (ℕ → Outcome) → Outcome
-loading given m (Value v) f = f v
-loading given m (NoValue x) f = unchanged given (fault_reply x) m
+abbrev pub loading : Cpu → Memory → Result ℕ Fault → (ℕ → Outcome) → Outcome
+loading given m (Ok v) f = f v
+loading given m (Err x) f = unchanged given (fault_reply x) m
 
 -- where memory took what was to be stored
-abbrev pub taking : Cpu → Memory → Stored → Outcome → Outcome
-taking given m Taken o = o
-taking given m (NotTaken x) o = unchanged given (fault_reply x) m
+abbrev pub taking : Cpu → Memory → Result Unit Fault → Outcome → Outcome
+taking given m (Ok tt) o = o
+taking given m (Err x) o = unchanged given (fault_reply x) m

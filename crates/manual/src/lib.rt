@@ -38,27 +38,6 @@ pub enum Fault {
     Outside,
 }
 
-// What an access finds: the place of storage where its bytes lie, or that it is not to be had.
-#[derive(Clone, Copy)]
-pub enum Access {
-    Here(u32),
-    Not(Fault),
-}
-
-// What a store answers, or MOVEM's loads: all of it was done, or nothing.
-#[derive(Clone, Copy)]
-pub enum Stored {
-    Done,
-    Fault(Fault),
-}
-
-// What a read of memory finds.
-#[derive(Clone, Copy)]
-pub enum Got {
-    Value(u32),
-    Fault(Fault),
-}
-
 // An operand as an opcode word names it, by its mode and its register.
 #[derive(Clone, Copy)]
 pub enum Operand {
@@ -84,14 +63,6 @@ pub enum Place {
     A(u32),
     M(u32),
     I(u32),
-    Fault(Fault),
-}
-
-// The address of a control mode: what the read of its words found, or that the mode has no address.
-#[derive(Clone, Copy)]
-pub enum Reached {
-    At(Got),
-    NoAddress,
 }
 
 // A register write: 0 to 7 are D0 to D7, 8 to 15 are A0 to A7, anything above is none.
@@ -101,18 +72,18 @@ pub struct Write {
     pub value: u32,
 }
 
-// What an operand reads: the value, the address after its extension words, and its register's move.
+// What an operand reads: the value or the fault, the address after its extension words, and its register's move.
 #[derive(Clone, Copy)]
 pub struct Source {
-    pub got: Got,
+    pub got: Result<u32, Fault>,
     pub next: u32,
     pub moved: Write,
 }
 
-// Where an operand is written: its place, the address after its extension words, and its register's move.
+// Where an operand is written: its place or the fault, the address after its extension words, and its register's move.
 #[derive(Clone, Copy)]
 pub struct Destination {
-    pub place: Place,
+    pub place: Result<Place, Fault>,
     pub next: u32,
     pub moved: Write,
 }
@@ -142,10 +113,9 @@ pub struct Shifted {
     pub carry: bool,
 }
 
-// A quotient and its remainder, or that the quotient does not fit.
+// A quotient and its remainder.
 #[derive(Clone, Copy)]
 pub struct Quotient {
-    pub fits: bool,
     pub quotient: u32,
     pub remainder: u32,
 }
@@ -173,20 +143,6 @@ pub enum EmacPart {
 pub enum ControlRegister {
     Cacr,
     Vbr,
-}
-
-// What the number of a control register names.
-#[derive(Clone, Copy)]
-pub enum Named {
-    Control(ControlRegister),
-    Unknown,
-}
-
-// The interrupt mask that an exception sets, if any.
-#[derive(Clone, Copy)]
-pub enum Level {
-    Kept,
-    To(u8),
 }
 
 // The answers, 0 to 9 in the order of their numbers.

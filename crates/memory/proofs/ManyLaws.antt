@@ -1,12 +1,9 @@
 -- One register of a mask, in a loop's terms: registers n to 15 are to come.
 -- Assumes nothing.
-use Rattle.std.proofs.Common.{◌≡◌, ℕ, suc, ◌+◌, ◌-◌, ◌/◌, ◌%◌, ◌<◌, ◌≤◌, List, get_or, set, arith, eq-eqb, ne_eqb}
+use Rattle.manual.specs.declared.Fault.{Fault}
+use Rattle.std.proofs.Common.{◌≡◌, ℕ, suc, ◌+◌, ◌-◌, ◌/◌, ◌%◌, ◌<◌, ◌≤◌, List, get_or, set, arith, eq-eqb, ne_eqb, Result, Ok, Err}
 use Rattle.manual.specs.declared.Size.TheVariants.{Long}
 use Rattle.manual.specs.declared.Fault.{Fault as Faults}
-use Rattle.manual.specs.declared.Access.{Access}
-use Rattle.manual.specs.declared.Access.TheVariants.{Here, Not}
-use Rattle.manual.specs.declared.Stored.{Stored}
-use Rattle.manual.specs.declared.Stored.TheVariants.{Done, Fault}
 use Rattle.manual.specs.Word.{plus}
 use Rattle.manual.specs.Registers.{general}
 use Rattle.manual.specs.Memory.{Memory, access, number_at, stored, access_many, stored_many, loaded_many}
@@ -19,16 +16,16 @@ to_come : (n : ℕ) → n < 16 → 16 - n ≡ suc (16 - (n + 1))
 to_come n h = omega arith
 
 module _ (n : ℕ) (h : n < 16) (m : Memory) (mask at : ℕ) where
-  pub access-on : (x : Access) (p at' : ℕ) (w : Stored) → mask % 2 ≡ 1 → x ≡ access m at 4 → x ≡ Here p → at' ≡ plus at 4
+  pub access-on : (x : Result ℕ Fault) (p at' : ℕ) (w : Result Unit Fault) → mask % 2 ≡ 1 → x ≡ access m at 4 → x ≡ Ok p → at' ≡ plus at 4
       → access_many (16 - n) m mask at ≡ w → access_many (16 - (n + 1)) m (mask / 2) at' ≡ w
   unfolding access_many
   access-on x p at' w t is i a e = rw a (rw (to_come n h, eq-eqb _ _ t, ← is, i) at e)
 
-  pub access-not : (x : Access) (f : Faults) (w : Stored) → mask % 2 ≡ 1 → x ≡ access m at 4 → x ≡ Not f → access_many (16 - n) m mask at ≡ w → Fault f ≡ w
+  pub access-not : (x : Result ℕ Fault) (f : Faults) (w : Result Unit Fault) → mask % 2 ≡ 1 → x ≡ access m at 4 → x ≡ Err f → access_many (16 - n) m mask at ≡ w → Err f ≡ w
   unfolding access_many
   access-not x f w t is i e = rw (to_come n h, eq-eqb _ _ t, ← is, i) at e
 
-  pub access-past : (w : Stored) → (mask % 2 ≡ 1 → ⊥) → access_many (16 - n) m mask at ≡ w → access_many (16 - (n + 1)) m (mask / 2) at ≡ w
+  pub access-past : (w : Result Unit Fault) → (mask % 2 ≡ 1 → ⊥) → access_many (16 - n) m mask at ≡ w → access_many (16 - (n + 1)) m (mask / 2) at ≡ w
   unfolding access_many
   access-past w t e = rw (to_come n h, ne_eqb _ _ t) at e
 
@@ -52,7 +49,7 @@ module _ (n : ℕ) (h : n < 16) (m : Memory) (mask at : ℕ) where
 
 -- and after the last
 module _ (n : ℕ) (h : 16 ≤ n) (m : Memory) (mask at : ℕ) where
-  pub access-none : access_many (16 - n) m mask at ≡ Done
+  pub access-none : access_many (16 - n) m mask at ≡ (Ok tt)
   unfolding access_many
   access-none = let e : 16 - n ≡ 0 = omega arith in rw e
 

@@ -1,5 +1,6 @@
 -- The laws of storing and reading back, each once over the size, and of an access.
 -- Assumes nothing.
+use Rattle.std.specs.Prelude.{Result, Ok, Err}
 use Rattle.std.specs.Prelude.{◌≡◌, ℕ, zero, suc, ◌+◌, ◌-◌, ◌*◌, ◌/◌, ◌%◌, ◌^◌, ◌<◌, ◌≤◌, Bool, true, false, cond, ◌⊎◌, List, length, set, slice_index, slice_index_or, slice_set, refl}
 use Rattle.std.proofs.Common.{sym, ◌∙◌, ⊎_elim, inl, inr, arith, sub-one, add-zero, add_assoc, le-leb, leb-true, length-set, get_or-set_same, get_or-set_other}
 use Rattle.std.proofs.Math.Nat.{pow-succ', div-div-eq-div-mul}
@@ -7,10 +8,6 @@ use Rattle.std.proofs.lemmas.Bool.{lt-leb}
 use Rattle.manual.specs.declared.Size.{Size}
 use Rattle.manual.specs.declared.Fault.{Fault}
 use Rattle.manual.specs.declared.Fault.TheVariants.{Outside}
-use Rattle.manual.specs.declared.Access.{Access}
-use Rattle.manual.specs.declared.Access.TheVariants.{Here, Not}
-use Rattle.manual.specs.declared.Stored.{Stored}
-use Rattle.manual.specs.declared.Stored.TheVariants.{Fault as NotTaken}
 use Rattle.manual.specs.Word.{bytes}
 use Rattle.manual.specs.Memory.{Storage, Memory, inside, value_at, store_at, access, taken, stored_in, storing, stored}
 
@@ -109,20 +106,20 @@ store-four m a v = simp (add-zero, add_assoc, div-div-eq-div-mul)
 
 -- ---- an access, which goes by the length of storage alone
 
-pub is-here : (m : Memory) (a n : ℕ) → a + n ≤ length m → access m a n ≡ Here a
+pub is-here : (m : Memory) (a n : ℕ) → a + n ≤ length m → access m a n ≡ Ok a
 unfolding access
 is-here m a n i = rw (le-leb _ _ i)
 
-pub is-not : (m : Memory) (a n : ℕ) → length m < a + n → access m a n ≡ Not Outside
+pub is-not : (m : Memory) (a n : ℕ) → length m < a + n → access m a n ≡ Err Outside
 unfolding access
 is-not m a n o = rw (lt-leb _ _ o)
 
 -- where it lies, its bytes are inside
-pub here-inside : (m : Memory) (a n p : ℕ) (x : Access) → x ≡ Here p → x ≡ access m a n → p + n ≤ length m
+pub here-inside : (m : Memory) (a n p : ℕ) (x : Result ℕ Fault) → x ≡ Ok p → x ≡ access m a n → p + n ≤ length m
 unfolding access
 here-inside m a n p x h is = by (inside m a n) (λ e. e) (sym h ∙ is)
   where
-    by : (b : Bool) → (b ≡ true → inside m a n ≡ true) → Here p ≡ cond b (Here a) (Not Outside) → p + n ≤ length m
+    by : (b : Bool) → (b ≡ true → inside m a n ≡ true) → Ok p ≡ cond b (Ok a) (Err Outside) → p + n ≤ length m
     by true t e = let q : p ≡ a = cc in rw q (leb-true _ _ (t refl))
     by false t e = let z : ◌≡◌ {A = ℕ} 0 1 = cc in absurd (omega arith)
 
@@ -130,15 +127,15 @@ pub length_stored : (m : Memory) (a : ℕ) (z : Size) (v : ℕ) → length (stor
 unfolding stored
 length_stored m a z v = by (access m a (bytes z))
   where
-    by : (x : Access) → length (stored_in m z v x) ≡ length m
-    by (Here at) = length_store m at (bytes z) v
-    by (Not x) = refl
+    by : (x : Result ℕ Fault) → length (stored_in m z v x) ≡ length m
+    by (Ok at) = length_store m at (bytes z) v
+    by (Err x) = refl
 
 -- a store that is refused stores nothing
-pub not-stored : (m : Memory) (a : ℕ) (z : Size) (v : ℕ) (r : Stored) (f : Fault) → r ≡ storing m a z → r ≡ NotTaken f → stored m a z v ≡ m
+pub not-stored : (m : Memory) (a : ℕ) (z : Size) (v : ℕ) (r : Result Unit Fault) (f : Fault) → r ≡ storing m a z → r ≡ Err f → stored m a z v ≡ m
 unfolding storing stored
 not-stored m a z v r f is h = by (access m a (bytes z)) (sym h ∙ is)
   where
-    by : (x : Access) → NotTaken f ≡ taken x → stored_in m z v x ≡ m
-    by (Here at) e = let q : ◌≡◌ {A = ℕ} 0 1 = cc in absurd (omega arith)
-    by (Not x) e = refl
+    by : (x : Result ℕ Fault) → Err f ≡ taken x → stored_in m z v x ≡ m
+    by (Ok at) e = let q : ◌≡◌ {A = ℕ} 0 1 = cc in absurd (omega arith)
+    by (Err x) e = refl

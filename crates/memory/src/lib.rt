@@ -6,7 +6,7 @@ pub mod many;
 ghost use Rattle.std.specs.Prelude.{◌≡◌, ◌+◌, ◌*◌, ◌/◌, ◌%◌, ◌^◌, ◌<◌, ◌≤◌, length, slice_index, slice_set};
 ghost use Rattle.manual.specs.Memory.{mapped, value_at, store_at, access as access_of, load as load_of, storing, stored};
 
-use manual::{Access, Fault, Got, Size, Stored};
+use manual::{Fault, Size};
 
 fn byte_at(mem: &[u8], at: usize) -> u32
     requires { at < length mem.now }
@@ -51,32 +51,32 @@ pub fn long_at(mem: &[u8], at: usize) -> u32
 }
 
 // Where the n bytes at an address lie, or why they are not to be had: the question that every access asks.
-pub fn access(mem: &[u8], a: u32, n: u32) -> Access
+pub fn access(mem: &[u8], a: u32, n: u32) -> Result<u32, Fault>
     ensures { result ≡ access_of (mapped mem.now) a n }
 {
     if a as usize + n as usize <= mem.len() {
-        Access::Here(a)
+        Ok(a)
     } else {
-        Access::Not(Fault::Outside)
+        Err(Fault::Outside)
     }
 }
 
 // The number of a size at an address, or the fault.
-pub fn load(mem: &[u8], a: u32, z: Size) -> Got
+pub fn load(mem: &[u8], a: u32, z: Size) -> Result<u32, Fault>
     ensures { result ≡ load_of (mapped mem.now) a z }
 {
     match z {
         Size::Byte => match access(mem, a, 1) {
-            Access::Here(at) => Got::Value(byte_at(mem, at as usize)),
-            Access::Not(x) => Got::Fault(x),
+            Ok(at) => Ok(byte_at(mem, at as usize)),
+            Err(x) => Err(x),
         },
         Size::Word => match access(mem, a, 2) {
-            Access::Here(at) => Got::Value(word_at(mem, at as usize)),
-            Access::Not(x) => Got::Fault(x),
+            Ok(at) => Ok(word_at(mem, at as usize)),
+            Err(x) => Err(x),
         },
         Size::Long => match access(mem, a, 4) {
-            Access::Here(at) => Got::Value(inside_long(mem, at as usize)),
-            Access::Not(x) => Got::Fault(x),
+            Ok(at) => Ok(inside_long(mem, at as usize)),
+            Err(x) => Err(x),
         },
     }
 }
@@ -98,31 +98,31 @@ fn store_long(mem: &mut [u8], at: usize, v: u32)
 }
 
 // Stores the low bytes of v: all of them, or none and the fault.
-pub fn store(mem: &mut [u8], a: u32, z: Size, v: u32) -> Stored
+pub fn store(mem: &mut [u8], a: u32, z: Size, v: u32) -> Result<(), Fault>
     ensures { (result ≡ storing (mapped mem.old) a z) × (mem.new ≡ stored (mapped mem.old) a z v) }
 {
     match z {
         Size::Byte => match access(&*mem, a, 1) {
-            Access::Here(at) => {
+            Ok(at) => {
                 let i = at as usize;
                 mem[i] = (v % 0x100) as u8;
-                Stored::Done
+                Ok(())
             }
-            Access::Not(x) => Stored::Fault(x),
+            Err(x) => Err(x),
         },
         Size::Word => match access(&*mem, a, 2) {
-            Access::Here(at) => {
+            Ok(at) => {
                 store_word(mem, at as usize, v);
-                Stored::Done
+                Ok(())
             }
-            Access::Not(x) => Stored::Fault(x),
+            Err(x) => Err(x),
         },
         Size::Long => match access(&*mem, a, 4) {
-            Access::Here(at) => {
+            Ok(at) => {
                 store_long(mem, at as usize, v);
-                Stored::Done
+                Ok(())
             }
-            Access::Not(x) => Stored::Fault(x),
+            Err(x) => Err(x),
         },
     }
 }

@@ -5,7 +5,7 @@ ghost use Rattle.manual.specs.Word.{plus};
 ghost use Rattle.manual.specs.Memory.{mapped, if_taken, number_at, access_many, stored_many, loaded_many};
 
 use crate::{access, load, store};
-use manual::{Access, Got, Size, Stored};
+use manual::{Fault, Size};
 
 fn next(at: u32) -> u32
     ensures { result ≡ plus at 4 }
@@ -13,7 +13,7 @@ fn next(at: u32) -> u32
     std::num::wrapping_add_u32(at, 4)
 }
 
-fn access_many(mem: &[u8], given: u32, start: u32) -> Stored
+fn access_many(mem: &[u8], given: u32, start: u32) -> Result<(), Fault>
     ensures { result ≡ access_many 16 (mapped mem.now) given start }
 {
     let mut mask = given;
@@ -22,8 +22,8 @@ fn access_many(mem: &[u8], given: u32, start: u32) -> Stored
     while n < 16 {
         n += 1;
         if mask % 2 == 1 {
-            if let Access::Not(x) = access(mem, at, 4) {
-                return Stored::Fault(x);
+            if let Err(x) = access(mem, at, 4) {
+                return Err(x);
             }
             at = next(at);
             mask = mask / 2;
@@ -31,15 +31,15 @@ fn access_many(mem: &[u8], given: u32, start: u32) -> Stored
         }
         mask = mask / 2;
     }
-    Stored::Done
+    Ok(())
 }
 
 fn long_or_zero(mem: &[u8], a: u32) -> u32
     ensures { result ≡ number_at (mapped mem.now) a Long }
 {
     match load(mem, a, Size::Long) {
-        Got::Value(v) => v,
-        Got::Fault(_) => 0,
+        Ok(v) => v,
+        Err(_) => 0,
     }
 }
 
@@ -84,27 +84,27 @@ fn load_all(mem: &[u8], g: &mut [u32; 16], given: u32, start: u32)
 }
 
 // Stores all of the registers, or none and the first fault.
-pub fn store_many(mem: &mut [u8], g: &[u32; 16], mask: u32, a: u32) -> Stored
+pub fn store_many(mem: &mut [u8], g: &[u32; 16], mask: u32, a: u32) -> Result<(), Fault>
     ensures { (result ≡ access_many 16 (mapped mem.old) mask a) × (mem.new ≡ if_taken result (stored_many 16 g.now 0 mask a (mapped mem.old)) mem.old) }
 {
     match access_many(&*mem, mask, a) {
-        Stored::Done => {
+        Ok(()) => {
             store_all(mem, g, mask, a);
-            Stored::Done
+            Ok(())
         }
-        Stored::Fault(x) => Stored::Fault(x),
+        Err(x) => Err(x),
     }
 }
 
 // Loads all of the registers, or none and the first fault.
-pub fn load_many(mem: &[u8], g: &mut [u32; 16], mask: u32, a: u32) -> Stored
+pub fn load_many(mem: &[u8], g: &mut [u32; 16], mask: u32, a: u32) -> Result<(), Fault>
     ensures { (result ≡ access_many 16 (mapped mem.now) mask a) × (g.new ≡ if_taken result (loaded_many 16 (mapped mem.now) 0 mask a g.old) g.old) }
 {
     match access_many(mem, mask, a) {
-        Stored::Done => {
+        Ok(()) => {
             load_all(mem, g, mask, a);
-            Stored::Done
+            Ok(())
         }
-        Stored::Fault(x) => Stored::Fault(x),
+        Err(x) => Err(x),
     }
 }

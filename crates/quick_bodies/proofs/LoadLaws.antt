@@ -1,11 +1,11 @@
 -- MAC with a load, by the place of its operand. Assumes nothing.
+use Rattle.std.specs.Prelude.{Result, Ok}
+use Rattle.manual.specs.declared.Fault.{Fault}
 use Prim.Native.Nat.{ℕ}
 use native.Mathlib.Omega.{arith}
 use mathlib.Core.Path.{◌≡◌}
 use mathlib.Core.List.{List}
 use Rattle.manual.specs.declared.Size.TheVariants.{Long}
-use Rattle.manual.specs.declared.Got.{Got}
-use Rattle.manual.specs.declared.Got.TheVariants.{Value}
 use Rattle.manual.specs.declared.Write.{Write}
 use Rattle.manual.specs.Registers.{coded}
 use Rattle.manual.specs.Flags.{kept_codes}
@@ -28,8 +28,8 @@ unfolding mac_load
 spotted g sr macsr mask m op w a base next step p q = rw (q, p)
 
 -- what is loaded from a spot
-pub loaded : (g : List ℕ) (pc sr macsr mask : ℕ) (m : Memory) (op w a next v : ℕ) (step : Write) (s : Spot) (got : Got)
-    → s ≡ At a next step → got ≡ load m a Long → got ≡ Value v
+pub loaded : (g : List ℕ) (pc sr macsr mask : ℕ) (m : Memory) (op w a next v : ℕ) (step : Write) (s : Spot) (got : Result ℕ Fault)
+    → s ≡ At a next step → got ≡ load m a Long → got ≡ Ok v
     → from_spot s g sr macsr m op w (mac_with_load g pc sr macsr mask m op w) ≡ mac_with_load g pc sr macsr mask m op w
     → loading g sr macsr op w v next step ≡ mac_with_load g pc sr macsr mask m op w
 loaded g pc sr macsr mask m op w a next v step s got p q r h = rw (p, ← q, r) at h

@@ -6,7 +6,7 @@ ghost use Rattle.instructions.specs.Line6.{bcc as bcc_of};
 ghost use Rattle.quick_parts.specs.Effects.{after, agreed};
 
 use address::changes::{jump, push};
-use manual::{Got, Size, Stored};
+use manual::Size;
 use memory::load;
 use memory::many::{load_many, store_many};
 use quick_parts::inplace::{Effect, changed, stored};
@@ -27,8 +27,8 @@ pub fn bcc(g: &mut [u32; 16], pc: u32, sr: u16, mem: &[u8], op: u32) -> Effect
     let holds = condition(op / 256, sr);
     if low == 0 {
         let d = match load(mem, at, Size::Word) {
-            Got::Value(d) => d,
-            Got::Fault(_) => return Effect::Left,
+            Ok(d) => d,
+            Err(_) => return Effect::Left,
         };
         if holds {
             return changed(g, sr, jump(sr, plus(at, sign_extended(Size::Word, d))));
@@ -57,8 +57,8 @@ pub fn jsr(g: &mut [u32; 16], pc: u32, sr: u16, mem: &mut [u8], op: u32) -> Effe
         return Effect::Left;
     }
     let a = match load(&*mem, at, Size::Long) {
-        Got::Value(a) => a,
-        Got::Fault(_) => return Effect::Left,
+        Ok(a) => a,
+        Err(_) => return Effect::Left,
     };
     let c = push(&*g, sr, a, plus(at, 4));
     stored(g, mem, sr, c)
@@ -73,8 +73,8 @@ pub fn pea(g: &mut [u32; 16], pc: u32, sr: u16, mem: &mut [u8], op: u32) -> Effe
     }
     let at = plus(pc, 2);
     let d = match load(&*mem, at, Size::Word) {
-        Got::Value(d) => d,
-        Got::Fault(_) => return Effect::Left,
+        Ok(d) => d,
+        Err(_) => return Effect::Left,
     };
     let a = plus(address(&*g, op % 8), sign_extended(Size::Word, d));
     let c = push(&*g, sr, plus(at, 2), a);
@@ -87,28 +87,28 @@ pub fn movem_store(g: &[u32; 16], pc: u32, sr: u16, mem: &mut [u8], op: u32) -> 
 {
     let at = plus(pc, 2);
     let mask = match load(&*mem, at, Size::Word) {
-        Got::Value(mask) => mask,
-        Got::Fault(_) => return Effect::Left,
+        Ok(mask) => mask,
+        Err(_) => return Effect::Left,
     };
     let a = address(g, op % 8);
     let same = coded(sr, kept_codes(sr));
     if op / 8 % 8 == 2 {
         return match store_many(mem, g, mask, a) {
-            Stored::Done => Effect::Done(plus(at, 2), same),
-            Stored::Fault(_) => Effect::Left,
+            Ok(()) => Effect::Done(plus(at, 2), same),
+            Err(_) => Effect::Left,
         };
     }
     if op / 8 % 8 != 5 {
         return Effect::Left;
     }
     let d = match load(&*mem, plus(at, 2), Size::Word) {
-        Got::Value(d) => d,
-        Got::Fault(_) => return Effect::Left,
+        Ok(d) => d,
+        Err(_) => return Effect::Left,
     };
     let b = plus(a, sign_extended(Size::Word, d));
     match store_many(mem, g, mask, b) {
-        Stored::Done => Effect::Done(plus(at, 4), same),
-        Stored::Fault(_) => Effect::Left,
+        Ok(()) => Effect::Done(plus(at, 4), same),
+        Err(_) => Effect::Left,
     }
 }
 
@@ -118,27 +118,27 @@ pub fn movem_load(g: &mut [u32; 16], pc: u32, sr: u16, mem: &[u8], op: u32) -> E
 {
     let at = plus(pc, 2);
     let mask = match load(mem, at, Size::Word) {
-        Got::Value(mask) => mask,
-        Got::Fault(_) => return Effect::Left,
+        Ok(mask) => mask,
+        Err(_) => return Effect::Left,
     };
     let a = address(&*g, op % 8);
     let same = coded(sr, kept_codes(sr));
     if op / 8 % 8 == 2 {
         return match load_many(mem, g, mask, a) {
-            Stored::Done => Effect::Done(plus(at, 2), same),
-            Stored::Fault(_) => Effect::Left,
+            Ok(()) => Effect::Done(plus(at, 2), same),
+            Err(_) => Effect::Left,
         };
     }
     if op / 8 % 8 != 5 {
         return Effect::Left;
     }
     let d = match load(mem, plus(at, 2), Size::Word) {
-        Got::Value(d) => d,
-        Got::Fault(_) => return Effect::Left,
+        Ok(d) => d,
+        Err(_) => return Effect::Left,
     };
     let b = plus(a, sign_extended(Size::Word, d));
     match load_many(mem, g, mask, b) {
-        Stored::Done => Effect::Done(plus(at, 4), same),
-        Stored::Fault(_) => Effect::Left,
+        Ok(()) => Effect::Done(plus(at, 4), same),
+        Err(_) => Effect::Left,
     }
 }

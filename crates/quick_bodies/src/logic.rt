@@ -11,7 +11,7 @@ ghost use Rattle.quick_parts.specs.Effects.{after, agreed};
 use address::changes::done;
 use line4::single::product;
 use lines0to3::line0::bit_of_data;
-use manual::{Got, Logic, Size};
+use manual::{Logic, Size};
 use memory::load;
 use quick_parts::Reading;
 use quick_parts::inplace::{Effect, changed};
@@ -70,8 +70,8 @@ pub fn mul_l(g: &mut [u32; 16], pc: u32, sr: u16, mem: &[u8], op: u32) -> Effect
 {
     let at = plus(pc, 2);
     let w = match load(mem, at, Size::Word) {
-        Got::Value(w) => w,
-        Got::Fault(_) => return Effect::Left,
+        Ok(w) => w,
+        Err(_) => return Effect::Left,
     };
     let Reading::Read(v, next, first) = read_long(&*g, mem, plus(at, 2), op) else {
         return Effect::Left;
@@ -104,8 +104,8 @@ pub fn bit_by_immediate(g: &mut [u32; 16], pc: u32, sr: u16, mem: &[u8], op: u32
         return Effect::Left;
     }
     let n = match load(mem, plus(pc, 2), Size::Word) {
-        Got::Value(n) => n,
-        Got::Fault(_) => return Effect::Left,
+        Ok(n) => n,
+        Err(_) => return Effect::Left,
     };
     changed(g, sr, bit_of_data(&*g, plus(pc, 4), sr, op, n))
 }

@@ -8,7 +8,7 @@ ghost use Rattle.quick_bodies.specs.Units.{product_by, once_summed, agreed_produ
 
 use emac::sum::accumulate_plainly;
 use linea::mac::{load_address, operand};
-use manual::{Got, Size};
+use manual::Size;
 use memory::load;
 use quick_parts::Spot;
 use word::registers::{address, general, no_write, write, write_address, write_general};
@@ -65,11 +65,11 @@ fn load_spot(g: &[u32; 16], pc: u32, mask: u32, mem: &[u8], op: u32, w: u32) -> 
             Spot::At(a, plus(pc, 4), write_address(op % 8, a))
         }
         5 => match load(mem, plus(pc, 4), Size::Word) {
-            Got::Value(d) => {
+            Ok(d) => {
                 let a = load_address(mask, w, plus(r, sign_extended(Size::Word, d)));
                 Spot::At(a, plus(pc, 6), no_write())
             }
-            Got::Fault(_) => Spot::NotNear,
+            Err(_) => Spot::NotNear,
         },
         _ => Spot::NotNear,
     }
@@ -90,7 +90,7 @@ fn mac_with_load(
     let Spot::At(a, next, moved) = load_spot(&*g, pc, mask, mem, op, w) else {
         return Product::Left;
     };
-    let Got::Value(v) = load(mem, a, Size::Long) else {
+    let Ok(v) = load(mem, a, Size::Long) else {
         return Product::Left;
     };
     let i = 1 - op / 128 % 2 + w / 16 % 2 * 2;
@@ -105,7 +105,7 @@ fn mac_with_load(
 fn mac_product(g: &mut [u32; 16], pc: u32, macsr: u32, mask: u32, mem: &[u8], op: u32) -> Product
     ensures { (sr : ℕ) (e : Emac) → once_summed result sr e g.new ≡ agreed_product result (mac g.old pc sr macsr mask (mapped mem.now) op) sr e g.old }
 {
-    let Got::Value(w) = load(mem, plus(pc, 2), Size::Word) else {
+    let Ok(w) = load(mem, plus(pc, 2), Size::Word) else {
         return Product::Left;
     };
     if op / 16 % 4 == 0 {

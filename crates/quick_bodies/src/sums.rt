@@ -10,7 +10,7 @@ ghost use Rattle.quick_parts.specs.Effects.{after, agreed};
 
 use address::changes::done;
 use lines5to9::line5::quick_number;
-use manual::{Got, Size};
+use manual::Size;
 use memory::load;
 use quick_parts::Reading;
 use quick_parts::inplace::{Effect, changed};
@@ -161,8 +161,8 @@ pub fn cmpi(g: &mut [u32; 16], pc: u32, sr: u16, mem: &[u8], op: u32) -> Effect
 {
     let at = plus(pc, 2);
     let v = match load(mem, at, Size::Long) {
-        Got::Value(v) => v,
-        Got::Fault(_) => return Effect::Left,
+        Ok(v) => v,
+        Err(_) => return Effect::Left,
     };
     let old = data(&*g, op % 8);
     let next = plus(at, 4);

@@ -1,4 +1,5 @@
 -- What the operand of a word reads, in a register and in memory. Assumes nothing.
+use Rattle.std.specs.Prelude.{Ok}
 use mathlib.Core.Path.{◌≡◌, refl, sym, ap, ◌∙◌}
 use mathlib.Core.List.{List}
 use Prim.Native.Nat.{ℕ, ◌+◌, ◌/◌, ◌%◌, ◌^◌, ◌<◌}
@@ -6,7 +7,6 @@ use native.Mathlib.Omega.{arith}
 use native.Mathlib.Nat.{mod-eq_of_lt}
 use Rattle.manual.specs.declared.Size.{Size}
 use Rattle.manual.specs.declared.Size.TheVariants.{Long}
-use Rattle.manual.specs.declared.Got.TheVariants.{Value}
 use Rattle.manual.specs.declared.Source.{Source}
 use Rattle.manual.specs.declared.Write.{Write}
 use Rattle.manual.specs.Word.{cut, plus}
@@ -26,7 +26,7 @@ module _ (z : Size) (g : List ℕ) (m : Memory) (pc op : ℕ) where
       (λ l. let e : op / 8 % 8 ≡ 0 = omega arith in let i : op % 16 ≡ op % 8 % 8 = omega arith in rw (e, i))
       (λ l. let e : op / 8 % 8 ≡ 1 = omega arith in let i : op % 16 ≡ 8 + op % 8 % 8 = omega arith in rw (e, i, part_cut))
 
-  pub loaded : (a next v : ℕ) (w : Write) → located g m pc (operand (op / 8 % 8) (op % 8)) z ≡ in_memory a next w → load m a z ≡ Value v
+  pub loaded : (a next v : ℕ) (w : Write) → located g m pc (operand (op / 8 % 8) (op % 8)) z ≡ in_memory a next w → load m a z ≡ Ok v
       → read_as v next w ≡ source g m pc op z
   unfolding source value fetch
   loaded a next v w h k =
@@ -39,12 +39,12 @@ module _ (z : Size) (g : List ℕ) (m : Memory) (pc op : ℕ) where
   spot_readable (At a next w) h = λ v l k. loaded a next v w (sym h) k
   spot_readable NotNear h = tt
 
-  pub to_read : (s : Spot) (a next v : ℕ) (w : Write) → Readable g m pc op z s → s ≡ At a next w → v < 2 ^ 32 → load m a z ≡ Value v
+  pub to_read : (s : Spot) (a next v : ℕ) (w : Write) → Readable g m pc op z s → s ≡ At a next w → v < 2 ^ 32 → load m a z ≡ Ok v
       → read_as v next w ≡ source g m pc op z
   to_read s a next v w h q = rw q at h v
 
 -- an immediate long is read where it stands
-pub immediate-long : (g : List ℕ) (m : Memory) (pc op : ℕ) → op % 64 ≡ 0x3C → (v : ℕ) → v < 2 ^ 32 → load m pc Long ≡ Value v
+pub immediate-long : (g : List ℕ) (m : Memory) (pc op : ℕ) → op % 64 ≡ 0x3C → (v : ℕ) → v < 2 ^ 32 → load m pc Long ≡ Ok v
     → read_as v (plus pc 4) no_write ≡ source g m pc op Long
 unfolding source operand value fetch locate immediate extension moved cut
 immediate-long g m pc op h v l k =

@@ -1,10 +1,9 @@
 -- A change that is done in place: its registers, its store, and the registers that MOVEM stores or loads. Any other change is left undone.
-use Rattle.std.specs.Prelude.{ℕ, List}
+use Rattle.manual.specs.declared.Fault.{Fault}
+use Rattle.std.specs.Prelude.{ℕ, List, Result, Ok, Err}
 use Rattle.manual.specs.declared.Action.{Action}
 use Rattle.manual.specs.declared.Action.TheVariants.{Nothing, Store, StoreMany, LoadMany, Enter, Return, Status, Stop, PushStatus, Halt, SetOther, Accumulate, SetAcc, SetExt, SetMacsr, SetMask, CopyAcc, ClearAcc, MoveControl, Refuse}
 use Rattle.manual.specs.declared.Change.{Change}
-use Rattle.manual.specs.declared.Stored.{Stored}
-use Rattle.manual.specs.declared.Stored.TheVariants.{Done as Taken, Fault as NotTaken}
 use Rattle.manual.specs.Registers.{written, coded}
 use Rattle.manual.specs.Memory.{Storage, Memory, storage_of, storing, stored, access_many, stored_many, loaded_many}
 use Rattle.quick_parts.specs.declared.inplace.Effect.{Effect}
@@ -20,9 +19,9 @@ abbrev pub after : Effect → List ℕ → Storage → After
 after e g b = record { effect = e; registers = g; storage = b }
 
 -- one thing where memory took it, else another
-abbrev pub where_taken : Stored → After → After → After
-where_taken Taken x left = x
-where_taken (NotTaken f) x left = left
+abbrev pub where_taken : Result Unit Fault → After → After → After
+where_taken (Ok tt) x left = x
+where_taken (Err f) x left = left
 
 -- what an action makes of the registers and of storage, or nothing
 abbrev pub acted : Action → (List ℕ → Storage → After) → After → List ℕ → Memory → After

@@ -1,15 +1,13 @@
 -- What a spot says of an operand's place, and a reading of its source. `NotNear` says nothing. Assumes nothing.
-use Rattle.std.specs.Prelude.{ℕ, ◌<◌, ◌^◌, ◌≡◌, refl, List}
+use Rattle.manual.specs.declared.Fault.{Fault}
+use Rattle.std.specs.Prelude.{ℕ, ◌<◌, ◌^◌, ◌≡◌, refl, List, Result, Option, Ok, Some}
 use Rattle.std.proofs.Common.{sym, ◌∙◌}
 use Rattle.std.proofs.Math.Path.{ap}
 use Rattle.manual.specs.declared.Size.{Size}
 use Rattle.manual.specs.declared.Size.TheVariants.{Long}
-use Rattle.manual.specs.declared.Got.TheVariants.{Value}
 use Rattle.manual.specs.declared.Operand.{Operand}
 use Rattle.manual.specs.declared.Place.{Place}
 use Rattle.manual.specs.declared.Place.TheVariants.{M}
-use Rattle.manual.specs.declared.Reached.{Reached}
-use Rattle.manual.specs.declared.Reached.TheVariants.{At as Reaches}
 use Rattle.manual.specs.declared.Source.{Source}
 use Rattle.manual.specs.declared.Write.{Write}
 use Rattle.manual.specs.Word.{plus}
@@ -24,7 +22,7 @@ use Rattle.quick_parts.specs.declared.Reading.TheVariants.{Read, NotNear as Unre
 
 -- where an operand is, its extension words being at pc
 pub record Located : Type 0 where
-  pub place : Place
+  pub place : Result Place Fault
   pub next : ℕ
   pub step : Write
 
@@ -39,11 +37,11 @@ spotted (At a next w) l = in_memory a next w
 spotted NotNear l = l
 
 abbrev pub read_as : ℕ → ℕ → Write → Source
-read_as v next w = record { got = Value v; next = next; moved = w }
+read_as v next w = record { got = Ok v; next = next; moved = w }
 
 -- the number that is loaded at a spot is what the operand of a word reads
 abbrev pub Readable : List ℕ → Memory → ℕ → ℕ → Size → Spot → Type 0
-Readable g m pc op z (At a next w) = (v : ℕ) → v < 2 ^ 32 → load m a z ≡ Value v → read_as v next w ≡ source g m pc op z
+Readable g m pc op z (At a next w) = (v : ℕ) → v < 2 ^ 32 → load m a z ≡ Ok v → read_as v next w ≡ source g m pc op z
 Readable g m pc op z NotNear = Unit {0}
 
 abbrev pub as_read : Reading → Source → Source
@@ -52,7 +50,7 @@ as_read Unread s = s
 
 -- the address of a control operand, its extension words being at pc; its register does not move
 pub record Controlled : Type 0 where
-  pub reached : Reached
+  pub reached : Option (Result ℕ Fault)
   pub next : ℕ
   pub step : Write
 
@@ -60,7 +58,7 @@ abbrev pub controlled : List ℕ → Memory → ℕ → Operand → Controlled
 controlled g m pc o = record { reached = control g m pc o; next = plus pc (extension o Long); step = no_write }
 
 abbrev pub reached_by : ℕ → ℕ → Write → Controlled
-reached_by a next w = record { reached = Reaches (Value a); next = next; step = w }
+reached_by a next w = record { reached = Some (Ok a); next = next; step = w }
 
 abbrev pub controlled_at : Spot → Controlled → Controlled
 controlled_at (At a next w) c = reached_by a next w

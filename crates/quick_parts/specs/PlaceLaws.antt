@@ -1,5 +1,6 @@
 -- A change that was done in place is what the definition's step does. Assumes nothing.
-use Rattle.std.specs.Prelude.{ℕ, ◌≡◌, List}
+use Rattle.manual.specs.declared.Fault.{Fault}
+use Rattle.std.specs.Prelude.{ℕ, ◌≡◌, List, Result, Ok, Err}
 use Rattle.std.proofs.Common.{arith}
 use Rattle.std.proofs.Math.Path.{ap}
 use Rattle.manual.specs.declared.Cpu.{Cpu}
@@ -7,8 +8,6 @@ use Rattle.manual.specs.declared.Emac.{Emac}
 use Rattle.manual.specs.declared.Action.{Action}
 use Rattle.manual.specs.declared.Action.TheVariants.{Nothing, Store, StoreMany, LoadMany, Enter, Return, Status, Stop, PushStatus, Halt, SetOther, Accumulate, SetAcc, SetExt, SetMacsr, SetMask, CopyAcc, ClearAcc, MoveControl, Refuse}
 use Rattle.manual.specs.declared.Change.{Change}
-use Rattle.manual.specs.declared.Stored.{Stored}
-use Rattle.manual.specs.declared.Stored.TheVariants.{Done as Taken, Fault as NotTaken}
 use Rattle.manual.specs.Registers.{written, coded, applied, with_parts, with_registers}
 use Rattle.manual.specs.Memory.{Storage, Memory, storing, stored, access_many, stored_many, loaded_many}
 use Rattle.manual.specs.Reply.{Outcome, completed, taking}
@@ -51,10 +50,10 @@ module _ (g : List ℕ) (pc sr : ℕ) (e : Emac) (rest : Cpu) (m : Memory) (c : 
   unfolding applied with_parts with_registers
   settled m1 h = the_same changed m1 h
 
-  if_taken_lem : (x : Stored) (o : Outcome) (a : After) → (after (Done pc' sr') g' m' ≡ a → next ≡ o) → after (Done pc' sr') g' m' ≡ where_taken x a left
+  if_taken_lem : (x : Result Unit Fault) (o : Outcome) (a : After) → (after (Done pc' sr') g' m' ≡ a → next ≡ o) → after (Done pc' sr') g' m' ≡ where_taken x a left
       → next ≡ taking state m x o
-  if_taken_lem Taken o a f h = f h
-  if_taken_lem (NotTaken x) o a f h = absurd (clash pc' sr' g m g' m' h)
+  if_taken_lem (Ok tt) o a f h = f h
+  if_taken_lem (Err x) o a f h = absurd (clash pc' sr' g m g' m' h)
 
   by_action : (a : Action) → after (Done pc' sr') g' m' ≡ acted a done left changed m → next ≡ act state (applied state c) a m
   unfolding applied with_parts

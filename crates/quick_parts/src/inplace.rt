@@ -3,7 +3,7 @@ ghost use Rattle.std.specs.Prelude.{◌≡◌, ℕ};
 ghost use Rattle.manual.specs.Memory.{Memory, mapped, storage_of};
 ghost use Rattle.quick_parts.specs.Effects.{after, agreed};
 
-use manual::{Action, Change, Stored};
+use manual::{Action, Change};
 use memory::store;
 use word::registers::{coded, write};
 
@@ -39,7 +39,7 @@ pub fn stored(g: &mut [u32; 16], mem: &mut [u8], sr: u16, c: Change) -> Effect
     let Action::Store(a, z, v) = action else {
         return Effect::Left;
     };
-    if let Stored::Fault(_) = store(mem, a, z, v) {
+    if let Err(_) = store(mem, a, z, v) {
         return Effect::Left;
     }
     write(g, first);

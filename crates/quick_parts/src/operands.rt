@@ -9,7 +9,7 @@ ghost use Rattle.quick_parts.specs.Near.{located, spotted, Readable, as_read, co
 
 use super::{Reading, Spot};
 use address::operands::indexed;
-use manual::{Got, Size};
+use manual::Size;
 use memory::load;
 use word::registers::{address, general, no_write, write_address};
 use word::word::{bytes, cut, minus, plus, sign_extended};
@@ -27,11 +27,11 @@ pub fn spot(z: Size, mem: &[u8], pc: u32, mode: u32, r: u32, a: u32) -> Spot
             Spot::At(b, plus(pc, 0), write_address(r, b))
         }
         5 => match load(mem, pc, Size::Word) {
-            Got::Value(d) => {
+            Ok(d) => {
                 let b = plus(a, sign_extended(Size::Word, d));
                 Spot::At(b, plus(pc, 2), no_write())
             }
-            Got::Fault(_) => Spot::NotNear,
+            Err(_) => Spot::NotNear,
         },
         _ => Spot::NotNear,
     }
@@ -62,8 +62,8 @@ fn near(z: Size, g: &[u32; 16], mem: &[u8], pc: u32, op: u32) -> Reading
         return Reading::NotNear;
     };
     match load(mem, b, z) {
-        Got::Value(v) => Reading::Read(v, next, moved),
-        Got::Fault(_) => Reading::NotNear,
+        Ok(v) => Reading::Read(v, next, moved),
+        Err(_) => Reading::NotNear,
     }
 }
 
@@ -72,11 +72,11 @@ fn indexed_spot(g: &[u32; 16], mem: &[u8], pc: u32, r: u32) -> Spot
     ensures { (z : Size) → spotted result (located g.now (mapped mem.now) pc (operand_of 6 r) z) ≡ located g.now (mapped mem.now) pc (operand_of 6 r) z }
 {
     match load(mem, pc, Size::Word) {
-        Got::Value(w) => {
+        Ok(w) => {
             let b = indexed(g, address(g, r), w);
             Spot::At(b, plus(pc, 2), no_write())
         }
-        Got::Fault(_) => Spot::NotNear,
+        Err(_) => Spot::NotNear,
     }
 }
 
@@ -91,8 +91,8 @@ fn read_indexed(z: Size, g: &[u32; 16], mem: &[u8], pc: u32, op: u32) -> Reading
         return Reading::NotNear;
     };
     match load(mem, b, z) {
-        Got::Value(v) => Reading::Read(v, next, moved),
-        Got::Fault(_) => Reading::NotNear,
+        Ok(v) => Reading::Read(v, next, moved),
+        Err(_) => Reading::NotNear,
     }
 }
 
@@ -121,15 +121,15 @@ fn absolute_spot(mem: &[u8], pc: u32, r: u32) -> Spot
 {
     match r {
         0 => match load(mem, pc, Size::Word) {
-            Got::Value(w) => {
+            Ok(w) => {
                 let a = sign_extended(Size::Word, w);
                 Spot::At(a, plus(pc, 2), no_write())
             }
-            Got::Fault(_) => Spot::NotNear,
+            Err(_) => Spot::NotNear,
         },
         1 => match load(mem, pc, Size::Long) {
-            Got::Value(a) => Spot::At(a, plus(pc, 4), no_write()),
-            Got::Fault(_) => Spot::NotNear,
+            Ok(a) => Spot::At(a, plus(pc, 4), no_write()),
+            Err(_) => Spot::NotNear,
         },
         _ => Spot::NotNear,
     }
@@ -171,7 +171,7 @@ pub fn read_any(z: Size, g: &[u32; 16], mem: &[u8], pc: u32, op: u32) -> Reading
         return Reading::NotNear;
     };
     match load(mem, b, z) {
-        Got::Value(v) => Reading::Read(v, next, moved),
-        Got::Fault(_) => Reading::NotNear,
+        Ok(v) => Reading::Read(v, next, moved),
+        Err(_) => Reading::NotNear,
     }
 }

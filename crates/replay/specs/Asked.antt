@@ -1,7 +1,6 @@
 -- The call that a record's head names: its kind, then the vector, the level, and from byte 6 a long, which is the budget of a run and else
 -- the program counter of the frame.
-use Rattle.std.specs.Prelude.{ℕ, ◌+◌, ◌*◌, min, Bool, cond, List, ◌++◌, eqb, get_or, length, take, drop}
-use Rattle.manual.specs.declared.Level.TheVariants.{Kept, To}
+use Rattle.std.specs.Prelude.{ℕ, ◌+◌, ◌*◌, min, Bool, cond, List, ◌++◌, eqb, get_or, length, take, drop, Some, None}
 use Rattle.manual.specs.Memory.{Storage, value_at}
 use Rattle.manual.specs.Lent.{Lent, lent}
 use Rattle.instructions.specs.HostCalls.{Called, called, exception_on, interrupt_on, rte_on, step_on, run_on}
@@ -15,8 +14,8 @@ asked h b m =
     let l : Lent = lent m in
     cond (eqb kind 0) (step_on b l)
     (cond (eqb kind 1) (run_on b l number)
-    (cond (eqb kind 2) (exception_on b l vector number Kept)
-    (cond (eqb kind 3) (exception_on b l vector number (To level))
+    (cond (eqb kind 2) (exception_on b l vector number None)
+    (cond (eqb kind 3) (exception_on b l vector number (Some level))
     (cond (eqb kind 4) (interrupt_on b l vector level) (rte_on b l)))))
 
 -- how many bytes of the block and of the memory the call gets

@@ -2,20 +2,20 @@
 ghost use Rattle.std.specs.Prelude.{◌≡◌, ◌+◌, ◌*◌, ◌/◌, ◌%◌};
 ghost use Rattle.manual.specs.Control.{control_register, movec_read, movec_write, control_moved};
 
-use manual::{ControlRegister, Cpu, Named};
+use manual::{ControlRegister, Cpu};
 use word::registers::{general, with_registers, write, write_general};
 
 // The control register of a number.
-pub fn control_register(number: u32) -> Named
+pub fn control_register(number: u32) -> Option<ControlRegister>
     ensures { result ≡ control_register number }
 {
     if number == 0x002 {
-        return Named::Control(ControlRegister::Cacr);
+        return Some(ControlRegister::Cacr);
     }
     if number == 0x801 {
-        return Named::Control(ControlRegister::Vbr);
+        return Some(ControlRegister::Vbr);
     }
-    Named::Unknown
+    None
 }
 
 fn movec_read(cpu: Cpu, from: ControlRegister) -> u32

@@ -5,7 +5,7 @@ ghost use Rattle.manual.specs.Lent.{lent, lent_refusal, first_refusal};
 ghost use Rattle.manual.specs.Exceptions.{set_sr, handler_sr as handler_sr_of};
 
 use super::replies::is_done;
-use manual::{Cpu, Emac, Level, Reply};
+use manual::{Cpu, Emac, Reply};
 use word::flags::{both, same};
 use word::registers::{address, with_address, with_other, with_sr};
 
@@ -80,12 +80,12 @@ pub fn with_status(cpu: Cpu, v: u32) -> Cpu
 }
 
 // The status register in a handler: S set, T clear, the mask by the level.
-pub fn handler_sr(level: Level, sr: u16) -> u16
+pub fn handler_sr(level: Option<u8>, sr: u16) -> u16
     ensures { result ≡ handler_sr_of level sr }
 {
     match level {
-        Level::Kept => sr / 0x4000 % 2 * 0x4000 + 0x2000 + sr % 0x2000,
-        Level::To(l) => {
+        None => sr / 0x4000 % 2 * 0x4000 + 0x2000 + sr % 0x2000,
+        Some(l) => {
             sr / 0x4000 % 2 * 0x4000
                 + 0x2000
                 + sr / 0x800 % 4 * 0x800

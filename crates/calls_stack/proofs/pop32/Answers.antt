@@ -6,12 +6,12 @@ pub returns-then-not-is_done : goal.returns-then-not-is_done
 unfolding pop32_of
 returns-then-not-is_done c = rw (← c.first_refusal-first.ensures, ← c.is_done.ensures, c.if-not-is_done.true, ← c.not_popped.ensures)
 
-pub returns-in-Value : goal.returns-in-Value
+pub returns-in-Ok : goal.returns-in-Ok
 unfolding pop32_of
-returns-in-Value c =
-    rw (← c.first_refusal-first.ensures, ← c.is_done.ensures, c.if-not-is_done.false, ← c.address-sp.ensures, ← c.load.ensures, c.in-Value.is, ← c.plus.ensures, ← c.with_address-next.ensures)
+returns-in-Ok c =
+    rw (← c.first_refusal-first.ensures, ← c.is_done.ensures, c.if-not-is_done.false, ← c.address-sp.ensures, ← c.load.ensures, c.in-Ok.is, ← c.plus.ensures, ← c.with_address-next.ensures)
 
-pub returns-in-Fault : goal.returns-in-Fault
+pub returns-in-Err : goal.returns-in-Err
 unfolding pop32_of
-returns-in-Fault c =
-    rw (← c.first_refusal-first.ensures, ← c.is_done.ensures, c.if-not-is_done.false, ← c.address-sp.ensures, ← c.load.ensures, c.in-Fault.is, ← c.fault_reply.ensures, ← c.not_popped-in-Fault.ensures)
+returns-in-Err c =
+    rw (← c.first_refusal-first.ensures, ← c.is_done.ensures, c.if-not-is_done.false, ← c.address-sp.ensures, ← c.load.ensures, c.in-Err.is, ← c.fault_reply.ensures, ← c.not_popped-in-Err.ensures)

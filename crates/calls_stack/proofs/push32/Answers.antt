@@ -12,7 +12,7 @@ unfolding push32_of
 returns-in-Done c =
     rw (← c.first_refusal-first.ensures, ← c.is_done.ensures, c.if-not-is_done.false, ← c.address.ensures, ← c.minus-sp.ensures, c.store.ensures.1, ← c.store.ensures.0, c.in-Done.is, ← c.with_address-next.ensures)
 
-pub returns-in-Fault : goal.returns-in-Fault
+pub returns-in-Err : goal.returns-in-Err
 unfolding push32_of
-returns-in-Fault c =
-    rw (← c.first_refusal-first.ensures, ← c.is_done.ensures, c.if-not-is_done.false, ← c.address.ensures, ← c.minus-sp.ensures, c.store.ensures.1, not-stored _ _ _ _ _ _ c.store.ensures.0 c.in-Fault.is, ← c.store.ensures.0, c.in-Fault.is, ← c.faulted.ensures)
+returns-in-Err c =
+    rw (← c.first_refusal-first.ensures, ← c.is_done.ensures, c.if-not-is_done.false, ← c.address.ensures, ← c.minus-sp.ensures, c.store.ensures.1, not-stored _ _ _ _ _ _ c.store.ensures.0 c.in-Err.is, ← c.store.ensures.0, c.in-Err.is, ← c.faulted.ensures)

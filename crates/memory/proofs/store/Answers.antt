@@ -6,40 +6,40 @@ use Rattle.manual.specs.Memory.{stored as stored_of}
 use Rattle.memory.proofs.store.Goals as goal
 
 pub bounds-mem-i : goal.bounds-mem-i
-bounds-mem-i c = let i = here-inside _ _ 1 _ _ c.in-Here.is c.access.ensures in omega arith
+bounds-mem-i c = let i = here-inside _ _ 1 _ _ c.in-Ok.is c.access.ensures in omega arith
 
 pub store_word-requires : goal.store_word-requires
-store_word-requires c = here-inside _ _ 2 _ _ c.in-Here-access.is c.access-in-Word.ensures
+store_word-requires c = here-inside _ _ 2 _ _ c.in-Ok-access.is c.access-in-Word.ensures
 
 pub store_long-requires : goal.store_long-requires
-store_long-requires c = here-inside _ _ 4 _ _ c.in-Here-access-2.is c.access-in-Long.ensures
+store_long-requires c = here-inside _ _ 4 _ _ c.in-Ok-access-2.is c.access-in-Long.ensures
 
-pub returns-in-Here : goal.returns-in-Here
+pub returns-in-Ok : goal.returns-in-Ok
 unfolding storing_of stored_of
-returns-in-Here c =
-    rw (c.in-Byte.is, ← c.access.ensures, c.in-Here.is, store-one) (refl, refl)
+returns-in-Ok c =
+    rw (c.in-Byte.is, ← c.access.ensures, c.in-Ok.is, store-one) (refl, refl)
 
-pub returns-in-Not : goal.returns-in-Not
+pub returns-in-Err : goal.returns-in-Err
 unfolding storing_of stored_of
-returns-in-Not c =
-    rw (c.in-Byte.is, ← c.access.ensures, c.in-Not.is) (refl, refl)
+returns-in-Err c =
+    rw (c.in-Byte.is, ← c.access.ensures, c.in-Err.is) (refl, refl)
 
-pub returns-in-Here-access : goal.returns-in-Here-access
+pub returns-in-Ok-access : goal.returns-in-Ok-access
 unfolding storing_of stored_of
-returns-in-Here-access c =
-    rw (c.in-Word.is, ← c.access-in-Word.ensures, c.in-Here-access.is, ← c.store_word.ensures) (refl, refl)
+returns-in-Ok-access c =
+    rw (c.in-Word.is, ← c.access-in-Word.ensures, c.in-Ok-access.is, ← c.store_word.ensures) (refl, refl)
 
-pub returns-in-Not-access : goal.returns-in-Not-access
+pub returns-in-Err-access : goal.returns-in-Err-access
 unfolding storing_of stored_of
-returns-in-Not-access c =
-    rw (c.in-Word.is, ← c.access-in-Word.ensures, c.in-Not-access.is) (refl, refl)
+returns-in-Err-access c =
+    rw (c.in-Word.is, ← c.access-in-Word.ensures, c.in-Err-access.is) (refl, refl)
 
-pub returns-in-Here-access-2 : goal.returns-in-Here-access-2
+pub returns-in-Ok-access-2 : goal.returns-in-Ok-access-2
 unfolding storing_of stored_of
-returns-in-Here-access-2 c =
-    rw (c.in-Long.is, ← c.access-in-Long.ensures, c.in-Here-access-2.is, ← c.store_long.ensures) (refl, refl)
+returns-in-Ok-access-2 c =
+    rw (c.in-Long.is, ← c.access-in-Long.ensures, c.in-Ok-access-2.is, ← c.store_long.ensures) (refl, refl)
 
-pub returns-in-Not-access-2 : goal.returns-in-Not-access-2
+pub returns-in-Err-access-2 : goal.returns-in-Err-access-2
 unfolding storing_of stored_of
-returns-in-Not-access-2 c =
-    rw (c.in-Long.is, ← c.access-in-Long.ensures, c.in-Not-access-2.is) (refl, refl)
+returns-in-Err-access-2 c =
+    rw (c.in-Long.is, ← c.access-in-Long.ensures, c.in-Err-access-2.is) (refl, refl)

@@ -18,6 +18,6 @@ pub returns-in-I : goal.returns-in-I
 unfolding fetch_of
 returns-in-I c = rw (c.in-I.is, ← c.cut-in-I.ensures)
 
-pub returns-in-Fault : goal.returns-in-Fault
+pub returns-in-Err : goal.returns-in-Err
 unfolding fetch_of
-returns-in-Fault c = rw c.in-Fault.is
+returns-in-Err c = rw c.in-Err.is

@@ -1,25 +1,25 @@
 use Rattle.manual.specs.Address.{locate as locate_of}
 use Rattle.address.proofs.operands.locate.Goals as goal
 
-pub returns-in-Value : goal.returns-in-Value
+pub returns-in-Ok : goal.returns-in-Ok
 unfolding locate_of
-returns-in-Value c = rw (c.in-Displaced.is, ← c.load.ensures, c.in-Value.is, ← c.address-in-Value.ensures, ← c.sign_extended.ensures, ← c.plus.ensures)
+returns-in-Ok c = rw (c.in-Displaced.is, ← c.load.ensures, c.in-Ok.is, ← c.address-in-Ok.ensures, ← c.sign_extended.ensures, ← c.plus.ensures)
 
-pub returns-in-Value-load : goal.returns-in-Value-load
+pub returns-in-Ok-load : goal.returns-in-Ok-load
 unfolding locate_of
-returns-in-Value-load c = rw (c.in-Indexed.is, ← c.load-in-Indexed.ensures, c.in-Value-load.is, ← c.address-in-Value-load.ensures, ← c.indexed.ensures)
+returns-in-Ok-load c = rw (c.in-Indexed.is, ← c.load-in-Indexed.ensures, c.in-Ok-load.is, ← c.address-in-Ok-load.ensures, ← c.indexed.ensures)
 
-pub returns-in-Value-load-2 : goal.returns-in-Value-load-2
+pub returns-in-Ok-load-2 : goal.returns-in-Ok-load-2
 unfolding locate_of
-returns-in-Value-load-2 c = rw (c.in-AbsoluteWord.is, ← c.load-in-AbsoluteWord.ensures, c.in-Value-load-2.is, ← c.sign_extended-in-Value-load-2.ensures)
+returns-in-Ok-load-2 c = rw (c.in-AbsoluteWord.is, ← c.load-in-AbsoluteWord.ensures, c.in-Ok-load-2.is, ← c.sign_extended-in-Ok-load-2.ensures)
 
-pub returns-in-Value-load-4 : goal.returns-in-Value-load-4
+pub returns-in-Ok-load-4 : goal.returns-in-Ok-load-4
 unfolding locate_of
-returns-in-Value-load-4 c = rw (c.in-PcDisplaced.is, ← c.load-in-PcDisplaced.ensures, c.in-Value-load-4.is, ← c.sign_extended-in-Value-load-4.ensures, ← c.plus-in-Value-load-4.ensures)
+returns-in-Ok-load-4 c = rw (c.in-PcDisplaced.is, ← c.load-in-PcDisplaced.ensures, c.in-Ok-load-4.is, ← c.sign_extended-in-Ok-load-4.ensures, ← c.plus-in-Ok-load-4.ensures)
 
-pub returns-in-Value-load-5 : goal.returns-in-Value-load-5
+pub returns-in-Ok-load-5 : goal.returns-in-Ok-load-5
 unfolding locate_of
-returns-in-Value-load-5 c = rw (c.in-PcIndexed.is, ← c.load-in-PcIndexed.ensures, c.in-Value-load-5.is, ← c.indexed-in-Value-load-5.ensures)
+returns-in-Ok-load-5 c = rw (c.in-PcIndexed.is, ← c.load-in-PcIndexed.ensures, c.in-Ok-load-5.is, ← c.indexed-in-Ok-load-5.ensures)
 
 pub returns-in-Data : goal.returns-in-Data
 unfolding locate_of
@@ -41,33 +41,33 @@ pub returns-in-PreDecrement : goal.returns-in-PreDecrement
 unfolding locate_of
 returns-in-PreDecrement c = rw (c.in-PreDecrement.is, ← c.address-in-PreDecrement.ensures, ← c.bytes.ensures, ← c.minus.ensures)
 
-pub returns-in-Fault : goal.returns-in-Fault
+pub returns-in-Err : goal.returns-in-Err
 unfolding locate_of
-returns-in-Fault c = rw (c.in-Displaced.is, ← c.load.ensures, c.in-Fault.is)
+returns-in-Err c = rw (c.in-Displaced.is, ← c.load.ensures, c.in-Err.is)
 
-pub returns-in-Fault-load : goal.returns-in-Fault-load
+pub returns-in-Err-load : goal.returns-in-Err-load
 unfolding locate_of
-returns-in-Fault-load c = rw (c.in-Indexed.is, ← c.load-in-Indexed.ensures, c.in-Fault-load.is)
+returns-in-Err-load c = rw (c.in-Indexed.is, ← c.load-in-Indexed.ensures, c.in-Err-load.is)
 
-pub returns-in-Fault-load-2 : goal.returns-in-Fault-load-2
+pub returns-in-Err-load-2 : goal.returns-in-Err-load-2
 unfolding locate_of
-returns-in-Fault-load-2 c = rw (c.in-AbsoluteWord.is, ← c.load-in-AbsoluteWord.ensures, c.in-Fault-load-2.is)
+returns-in-Err-load-2 c = rw (c.in-AbsoluteWord.is, ← c.load-in-AbsoluteWord.ensures, c.in-Err-load-2.is)
 
-pub returns-in-Value-load-3 : goal.returns-in-Value-load-3
+pub returns-in-Ok-load-3 : goal.returns-in-Ok-load-3
 unfolding locate_of
-returns-in-Value-load-3 c = rw (c.in-AbsoluteLong.is, ← c.load-in-AbsoluteLong.ensures, c.in-Value-load-3.is)
+returns-in-Ok-load-3 c = rw (c.in-AbsoluteLong.is, ← c.load-in-AbsoluteLong.ensures, c.in-Ok-load-3.is)
 
-pub returns-in-Fault-load-3 : goal.returns-in-Fault-load-3
+pub returns-in-Err-load-3 : goal.returns-in-Err-load-3
 unfolding locate_of
-returns-in-Fault-load-3 c = rw (c.in-AbsoluteLong.is, ← c.load-in-AbsoluteLong.ensures, c.in-Fault-load-3.is)
+returns-in-Err-load-3 c = rw (c.in-AbsoluteLong.is, ← c.load-in-AbsoluteLong.ensures, c.in-Err-load-3.is)
 
-pub returns-in-Fault-load-4 : goal.returns-in-Fault-load-4
+pub returns-in-Err-load-4 : goal.returns-in-Err-load-4
 unfolding locate_of
-returns-in-Fault-load-4 c = rw (c.in-PcDisplaced.is, ← c.load-in-PcDisplaced.ensures, c.in-Fault-load-4.is)
+returns-in-Err-load-4 c = rw (c.in-PcDisplaced.is, ← c.load-in-PcDisplaced.ensures, c.in-Err-load-4.is)
 
-pub returns-in-Fault-load-5 : goal.returns-in-Fault-load-5
+pub returns-in-Err-load-5 : goal.returns-in-Err-load-5
 unfolding locate_of
-returns-in-Fault-load-5 c = rw (c.in-PcIndexed.is, ← c.load-in-PcIndexed.ensures, c.in-Fault-load-5.is)
+returns-in-Err-load-5 c = rw (c.in-PcIndexed.is, ← c.load-in-PcIndexed.ensures, c.in-Err-load-5.is)
 
 pub returns-in-Immediate : goal.returns-in-Immediate
 unfolding locate_of

@@ -3,17 +3,17 @@ use Rattle.manual.specs.Exceptions.{returned as returned_of}
 use borrow.Author.Rules.{rules}
 use Rattle.exceptions.proofs.entry.returned.Goals as goal
 
-pub returns-in-Fault : goal.returns-in-Fault
+pub returns-in-Err : goal.returns-in-Err
 unfolding returned_of
-returns-in-Fault c =
-    rw (← c.address-sp.ensures, ← c.load.ensures, c.in-Fault.is, ← c.faulted.ensures)
+returns-in-Err c =
+    rw (← c.address-sp.ensures, ← c.load.ensures, c.in-Err.is, ← c.faulted.ensures)
 
-pub returns-in-Fault-load : goal.returns-in-Fault-load
+pub returns-in-Err-load : goal.returns-in-Err-load
 unfolding returned_of
-returns-in-Fault-load c =
-    rw (← c.address-sp.ensures, ← c.load.ensures, c.in-Value.is, ← c.plus.ensures, ← c.load-2.ensures, c.in-Fault-load.is, ← c.faulted-in-Fault-load.ensures)
+returns-in-Err-load c =
+    rw (← c.address-sp.ensures, ← c.load.ensures, c.in-Ok.is, ← c.plus.ensures, ← c.load-2.ensures, c.in-Err-load.is, ← c.faulted-in-Err-load.ensures)
 
 pub returns : goal.returns
 unfolding returned_of
 returns c =
-    rw (← c.address-sp.ensures, ← c.load.ensures, c.in-Value.is, ← c.plus.ensures, ← c.load-2.ensures, c.in-Value-load.is, ← c.return_state-next.ensures)
+    rw (← c.address-sp.ensures, ← c.load.ensures, c.in-Ok.is, ← c.plus.ensures, ← c.load-2.ensures, c.in-Ok-load.is, ← c.return_state-next.ensures)

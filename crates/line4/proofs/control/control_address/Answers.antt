@@ -6,15 +6,15 @@ unfolding control_address_of
 returns-in_default c =
     rw (← c.plus-pc.ensures, ← c.operand-target.ensures, ← c.control.ensures, c.in_default.is, ← c.illegal.ensures)
 
-pub returns-in-Value : goal.returns-in-Value
+pub returns-in-Ok : goal.returns-in-Ok
 unfolding control_address_of
-returns-in-Value c =
-    rw (← c.plus-pc.ensures, ← c.operand-target.ensures, ← c.control.ensures, c.in-At.is, c.in-Value.is, ← c.extension.ensures, ← c.plus.ensures)
+returns-in-Ok c =
+    rw (← c.plus-pc.ensures, ← c.operand-target.ensures, ← c.control.ensures, c.in-Some.is, c.in-Ok.is, ← c.extension.ensures, ← c.plus.ensures)
 
-pub returns-in-Fault : goal.returns-in-Fault
+pub returns-in-Err : goal.returns-in-Err
 unfolding control_address_of
-returns-in-Fault c =
-    rw (← c.plus-pc.ensures, ← c.operand-target.ensures, ← c.control.ensures, c.in-At.is, c.in-Fault.is, ← c.refused.ensures)
+returns-in-Err c =
+    rw (← c.plus-pc.ensures, ← c.operand-target.ensures, ← c.control.ensures, c.in-Some.is, c.in-Err.is, ← c.refused.ensures)
 
 pub plus-pc-requires : goal.plus-pc-requires
 plus-pc-requires c = tt

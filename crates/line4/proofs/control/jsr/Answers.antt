@@ -1,9 +1,9 @@
 use Rattle.line4.specs.ControlAddress.{jsr-goes}
 use Rattle.line4.proofs.control.jsr.Goals as goal
 
-pub returns-in-To : goal.returns-in-To
-returns-in-To c =
-    rw (jsr-goes, ← c.control_address.ensures, c.in-To.is, ← c.push.ensures)
+pub returns-in-Some : goal.returns-in-Some
+returns-in-Some c =
+    rw (jsr-goes, ← c.control_address.ensures, c.in-Some.is, ← c.push.ensures)
 
 pub returns-in-Ends : goal.returns-in-Ends
 returns-in-Ends c = rw (jsr-goes, ← c.control_address.ensures, c.in-Ends.is)

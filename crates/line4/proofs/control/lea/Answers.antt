@@ -1,9 +1,9 @@
 use Rattle.line4.specs.ControlAddress.{lea-goes}
 use Rattle.line4.proofs.control.lea.Goals as goal
 
-pub returns-in-To : goal.returns-in-To
-returns-in-To c =
-    rw (lea-goes, ← c.kept_codes-codes.ensures, ← c.no_write-none.ensures, ← c.control_address.ensures, c.in-To.is, ← c.write_address.ensures, ← c.done.ensures)
+pub returns-in-Some : goal.returns-in-Some
+returns-in-Some c =
+    rw (lea-goes, ← c.kept_codes-codes.ensures, ← c.no_write-none.ensures, ← c.control_address.ensures, c.in-Some.is, ← c.write_address.ensures, ← c.done.ensures)
 
 pub returns-in-Ends : goal.returns-in-Ends
 returns-in-Ends c =

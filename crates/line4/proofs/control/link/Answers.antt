@@ -1,15 +1,15 @@
 use Rattle.instructions.specs.Line4.{link as link_of}
 use Rattle.line4.proofs.control.link.Goals as goal
 
-pub returns-in-Fault : goal.returns-in-Fault
+pub returns-in-Err : goal.returns-in-Err
 unfolding link_of
-returns-in-Fault c =
-    rw (← c.plus-pc.ensures, ← c.address.ensures, ← c.minus-sp.ensures, ← c.load.ensures, c.in-Fault.is, ← c.refused.ensures)
+returns-in-Err c =
+    rw (← c.plus-pc.ensures, ← c.address.ensures, ← c.minus-sp.ensures, ← c.load.ensures, c.in-Err.is, ← c.refused.ensures)
 
 pub returns : goal.returns
 unfolding link_of
 returns c =
-    rw (← c.plus-pc.ensures, ← c.address.ensures, ← c.minus-sp.ensures, ← c.load.ensures, c.in-Value.is, ← c.plus-next.ensures, ← c.kept_codes-codes.ensures, ← c.write_address-frame.ensures, ← c.sign_extended.ensures, ← c.plus.ensures, ← c.write_address-top.ensures, ← c.address-2.ensures, ← c.store.ensures)
+    rw (← c.plus-pc.ensures, ← c.address.ensures, ← c.minus-sp.ensures, ← c.load.ensures, c.in-Ok.is, ← c.plus-next.ensures, ← c.kept_codes-codes.ensures, ← c.write_address-frame.ensures, ← c.sign_extended.ensures, ← c.plus.ensures, ← c.write_address-top.ensures, ← c.address-2.ensures, ← c.store.ensures)
 
 pub plus-pc-requires : goal.plus-pc-requires
 plus-pc-requires c = tt

@@ -1,15 +1,15 @@
 use Rattle.instructions.specs.Line4.{rts as rts_of}
 use Rattle.line4.proofs.control.rts.Goals as goal
 
-pub returns-in-Fault : goal.returns-in-Fault
+pub returns-in-Err : goal.returns-in-Err
 unfolding rts_of
-returns-in-Fault c =
-    rw (← c.address-sp.ensures, ← c.load.ensures, c.in-Fault.is, ← c.refused.ensures)
+returns-in-Err c =
+    rw (← c.address-sp.ensures, ← c.load.ensures, c.in-Err.is, ← c.refused.ensures)
 
 pub returns : goal.returns
 unfolding rts_of
 returns c =
-    rw (← c.address-sp.ensures, ← c.load.ensures, c.in-Value.is, ← c.kept_codes-codes.ensures, ← c.plus.ensures, ← c.write_address-popped.ensures, ← c.no_write.ensures, ← c.done.ensures)
+    rw (← c.address-sp.ensures, ← c.load.ensures, c.in-Ok.is, ← c.kept_codes-codes.ensures, ← c.plus.ensures, ← c.write_address-popped.ensures, ← c.no_write.ensures, ← c.done.ensures)
 
 pub address-sp-requires : goal.address-sp-requires
 address-sp-requires c = tt

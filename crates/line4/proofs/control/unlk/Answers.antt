@@ -1,15 +1,15 @@
 use Rattle.instructions.specs.Line4.{unlk as unlk_of}
 use Rattle.line4.proofs.control.unlk.Goals as goal
 
-pub returns-in-Fault : goal.returns-in-Fault
+pub returns-in-Err : goal.returns-in-Err
 unfolding unlk_of
-returns-in-Fault c =
-    rw (← c.address-a.ensures, ← c.load.ensures, c.in-Fault.is, ← c.refused.ensures)
+returns-in-Err c =
+    rw (← c.address-a.ensures, ← c.load.ensures, c.in-Err.is, ← c.refused.ensures)
 
 pub returns : goal.returns
 unfolding unlk_of
 returns c =
-    rw (← c.address-a.ensures, ← c.load.ensures, c.in-Value.is, ← c.plus-next.ensures, ← c.kept_codes-codes.ensures, ← c.plus.ensures, ← c.write_address-top.ensures, ← c.write_address.ensures, ← c.done.ensures)
+    rw (← c.address-a.ensures, ← c.load.ensures, c.in-Ok.is, ← c.plus-next.ensures, ← c.kept_codes-codes.ensures, ← c.plus.ensures, ← c.write_address-top.ensures, ← c.write_address.ensures, ← c.done.ensures)
 
 pub address-a-requires : goal.address-a-requires
 address-a-requires c = tt

@@ -10,6 +10,6 @@ pub returns-else-v-eq0 : goal.returns-else-v-eq0
 returns-else-v-eq0 c =
     rw (divide_goes, ← c.word_and_long.ensures, c.in-Read.is, ne_eqb _ _ c.if-v-eq0.false, ← c.data.ensures, ← c.divided-q.ensures, ← c.quotient_done.ensures)
 
-pub returns-in-Fault : goal.returns-in-Fault
-returns-in-Fault c =
-    rw (divide_goes, ← c.word_and_long.ensures, c.in-Fault.is, ← c.refused.ensures)
+pub returns-in-Err : goal.returns-in-Err
+returns-in-Err c =
+    rw (divide_goes, ← c.word_and_long.ensures, c.in-Err.is, ← c.refused.ensures)

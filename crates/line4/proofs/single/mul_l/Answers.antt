@@ -5,9 +5,9 @@ pub returns-in-Read : goal.returns-in-Read
 returns-in-Read c =
     rw (multiply_goes, ← c.word_and_long.ensures, c.in-Read.is, ← c.data.ensures, ← c.product-r.ensures, ← c.move_codes-codes.ensures, ← c.write_data.ensures, ← c.done.ensures)
 
-pub returns-in-Fault : goal.returns-in-Fault
-returns-in-Fault c =
-    rw (multiply_goes, ← c.word_and_long.ensures, c.in-Fault.is, ← c.refused.ensures)
+pub returns-in-Err : goal.returns-in-Err
+returns-in-Err c =
+    rw (multiply_goes, ← c.word_and_long.ensures, c.in-Err.is, ← c.refused.ensures)
 
 pub word_and_long-requires : goal.word_and_long-requires
 word_and_long-requires c = tt

@@ -1,15 +1,15 @@
 use Rattle.instructions.specs.Line4.{tst as tst_of}
 use Rattle.line4.proofs.single.tst.Goals as goal
 
-pub returns-in-Fault : goal.returns-in-Fault
+pub returns-in-Err : goal.returns-in-Err
 unfolding tst_of
-returns-in-Fault c =
-    rw (← c.size_of-z.ensures, ← c.plus.ensures, ← c.source-from.ensures, c.in-Fault.is, ← c.refused.ensures)
+returns-in-Err c =
+    rw (← c.size_of-z.ensures, ← c.plus.ensures, ← c.source-from.ensures, c.in-Err.is, ← c.refused.ensures)
 
 pub returns : goal.returns
 unfolding tst_of
 returns c =
-    rw (← c.size_of-z.ensures, ← c.plus.ensures, ← c.source-from.ensures, c.in-Value.is, ← c.move_codes-codes.ensures, ← c.no_write.ensures, ← c.done.ensures)
+    rw (← c.size_of-z.ensures, ← c.plus.ensures, ← c.source-from.ensures, c.in-Ok.is, ← c.move_codes-codes.ensures, ← c.no_write.ensures, ← c.done.ensures)
 
 pub size_of-z-requires : goal.size_of-z-requires
 size_of-z-requires c = tt

@@ -1,20 +1,20 @@
 use Rattle.line4.specs.Words.{word_and_long as word_and_long_of}
 use Rattle.line4.proofs.single.word_and_long.Goals as goal
 
-pub returns-in-Fault : goal.returns-in-Fault
+pub returns-in-Err : goal.returns-in-Err
 unfolding word_and_long_of
-returns-in-Fault c =
-    rw (← c.plus-pc.ensures, ← c.load.ensures, c.in-Fault.is)
+returns-in-Err c =
+    rw (← c.plus-pc.ensures, ← c.load.ensures, c.in-Err.is)
 
-pub returns-in-Value-got : goal.returns-in-Value-got
+pub returns-in-Ok-got : goal.returns-in-Ok-got
 unfolding word_and_long_of
-returns-in-Value-got c =
-    rw (← c.plus-pc.ensures, ← c.load.ensures, c.in-Value.is, ← c.plus.ensures, ← c.source-from.ensures, c.in-Value-got.is)
+returns-in-Ok-got c =
+    rw (← c.plus-pc.ensures, ← c.load.ensures, c.in-Ok.is, ← c.plus.ensures, ← c.source-from.ensures, c.in-Ok-got.is)
 
-pub returns-in-Fault-got : goal.returns-in-Fault-got
+pub returns-in-Err-got : goal.returns-in-Err-got
 unfolding word_and_long_of
-returns-in-Fault-got c =
-    rw (← c.plus-pc.ensures, ← c.load.ensures, c.in-Value.is, ← c.plus.ensures, ← c.source-from.ensures, c.in-Fault-got.is)
+returns-in-Err-got c =
+    rw (← c.plus-pc.ensures, ← c.load.ensures, c.in-Ok.is, ← c.plus.ensures, ← c.source-from.ensures, c.in-Err-got.is)
 
 pub plus-pc-requires : goal.plus-pc-requires
 plus-pc-requires c = tt

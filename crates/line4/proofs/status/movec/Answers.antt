@@ -1,20 +1,20 @@
 use Rattle.instructions.specs.Line4.{movec as movec_of}
 use Rattle.line4.proofs.status.movec.Goals as goal
 
-pub returns-in-Fault : goal.returns-in-Fault
+pub returns-in-Err : goal.returns-in-Err
 unfolding movec_of
-returns-in-Fault c =
-    rw (← c.plus-pc.ensures, ← c.load.ensures, c.in-Fault.is, ← c.refused.ensures)
+returns-in-Err c =
+    rw (← c.plus-pc.ensures, ← c.load.ensures, c.in-Err.is, ← c.refused.ensures)
 
 pub returns-in_default : goal.returns-in_default
 unfolding movec_of
 returns-in_default c =
-    rw (← c.plus-pc.ensures, ← c.load.ensures, c.in-Value.is, ← c.control_register.ensures, c.in_default.is, ← c.illegal.ensures, ← c.privileged.ensures)
+    rw (← c.plus-pc.ensures, ← c.load.ensures, c.in-Ok.is, ← c.control_register.ensures, c.in_default.is, ← c.illegal.ensures, ← c.privileged.ensures)
 
 pub returns : goal.returns
 unfolding movec_of
 returns c =
-    rw (← c.plus-pc.ensures, ← c.load.ensures, c.in-Value.is, ← c.control_register.ensures, c.in-Control.is, ← c.plus-next.ensures, ← c.no_write.ensures, ← c.acting.ensures, ← c.privileged-2.ensures)
+    rw (← c.plus-pc.ensures, ← c.load.ensures, c.in-Ok.is, ← c.control_register.ensures, c.in-Some.is, ← c.plus-next.ensures, ← c.no_write.ensures, ← c.acting.ensures, ← c.privileged-2.ensures)
 
 pub plus-pc-requires : goal.plus-pc-requires
 plus-pc-requires c = tt

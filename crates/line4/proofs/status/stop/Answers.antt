@@ -1,15 +1,15 @@
 use Rattle.instructions.specs.Line4.{stop as stop_of}
 use Rattle.line4.proofs.status.stop.Goals as goal
 
-pub returns-in-Fault : goal.returns-in-Fault
+pub returns-in-Err : goal.returns-in-Err
 unfolding stop_of
-returns-in-Fault c =
-    rw (← c.plus-pc.ensures, ← c.load.ensures, c.in-Fault.is, ← c.refused.ensures)
+returns-in-Err c =
+    rw (← c.plus-pc.ensures, ← c.load.ensures, c.in-Err.is, ← c.refused.ensures)
 
 pub returns : goal.returns
 unfolding stop_of
 returns c =
-    rw (← c.plus-pc.ensures, ← c.load.ensures, c.in-Value.is, ← c.plus-next.ensures, ← c.no_write.ensures, ← c.acting.ensures, ← c.privileged.ensures)
+    rw (← c.plus-pc.ensures, ← c.load.ensures, c.in-Ok.is, ← c.plus-next.ensures, ← c.no_write.ensures, ← c.acting.ensures, ← c.privileged.ensures)
 
 pub plus-pc-requires : goal.plus-pc-requires
 plus-pc-requires c = tt

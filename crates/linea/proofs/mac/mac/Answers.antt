@@ -2,20 +2,20 @@ use borrow.Author.Tests.{eq-eqb, ne_eqb}
 use Rattle.instructions.specs.LineA.{mac as mac_of}
 use Rattle.linea.proofs.mac.mac.Goals as goal
 
-pub returns-in-Fault : goal.returns-in-Fault
+pub returns-in-Err : goal.returns-in-Err
 unfolding mac_of
-returns-in-Fault c =
-    rw (← c.plus.ensures, ← c.load.ensures, c.in-Fault.is, ← c.refused.ensures)
+returns-in-Err c =
+    rw (← c.plus.ensures, ← c.load.ensures, c.in-Err.is, ← c.refused.ensures)
 
 pub returns-then-op-eq0 : goal.returns-then-op-eq0
 unfolding mac_of
 returns-then-op-eq0 c =
-    rw (← c.plus.ensures, ← c.load.ensures, c.in-Value.is, eq-eqb _ _ c.if-op-eq0.true, ← c.mac_registers.ensures)
+    rw (← c.plus.ensures, ← c.load.ensures, c.in-Ok.is, eq-eqb _ _ c.if-op-eq0.true, ← c.mac_registers.ensures)
 
 pub returns-else-op-eq0 : goal.returns-else-op-eq0
 unfolding mac_of
 returns-else-op-eq0 c =
-    rw (← c.plus.ensures, ← c.load.ensures, c.in-Value.is, ne_eqb _ _ c.if-op-eq0.false, ← c.mac_with_load.ensures)
+    rw (← c.plus.ensures, ← c.load.ensures, c.in-Ok.is, ne_eqb _ _ c.if-op-eq0.false, ← c.mac_with_load.ensures)
 
 pub plus-requires : goal.plus-requires
 plus-requires c = tt

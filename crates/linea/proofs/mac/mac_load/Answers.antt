@@ -1,15 +1,15 @@
 use Rattle.instructions.specs.LineA.{mac_load as mac_load_of}
 use Rattle.linea.proofs.mac.mac_load.Goals as goal
 
-pub returns-in-Fault : goal.returns-in-Fault
+pub returns-in-Err : goal.returns-in-Err
 unfolding mac_load_of
-returns-in-Fault c =
-    rw (← c.load_address-a.ensures, ← c.load.ensures, c.in-Fault.is, ← c.refused.ensures)
+returns-in-Err c =
+    rw (← c.load_address-a.ensures, ← c.load.ensures, c.in-Err.is, ← c.refused.ensures)
 
 pub returns : goal.returns
 unfolding mac_load_of
 returns c =
-    rw (← c.load_address-a.ensures, ← c.load.ensures, c.in-Value.is, ← c.kept_codes-codes.ensures, ← c.write_general-loaded.ensures, ← c.load_moves-stepped.ensures, ← c.general-rx.ensures, ← c.general-ry.ensures, ← c.accumulating-summed.ensures)
+    rw (← c.load_address-a.ensures, ← c.load.ensures, c.in-Ok.is, ← c.kept_codes-codes.ensures, ← c.write_general-loaded.ensures, ← c.load_moves-stepped.ensures, ← c.general-rx.ensures, ← c.general-ry.ensures, ← c.accumulating-summed.ensures)
 
 pub load_address-a-requires : goal.load_address-a-requires
 load_address-a-requires c = tt

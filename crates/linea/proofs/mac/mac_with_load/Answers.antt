@@ -6,15 +6,15 @@ pub returns-then-mode-gt5 : goal.returns-then-mode-gt5
 unfolding mac_with_load_of
 returns-then-mode-gt5 c = rw (← c.address-a.ensures, lt-ltb _ _ c.if-mode-gt5.true, ← c.enter.ensures)
 
-pub returns-in-Fault : goal.returns-in-Fault
+pub returns-in-Err : goal.returns-in-Err
 unfolding mac_with_load_of
-returns-in-Fault c =
-    rw (← c.address-a.ensures, le-ltb _ _ c.if-mode-gt5.false, eq-eqb _ _ c.if-mode-eq5.true, ← c.plus.ensures, ← c.load.ensures, c.in-Fault.is, ← c.refused.ensures)
+returns-in-Err c =
+    rw (← c.address-a.ensures, le-ltb _ _ c.if-mode-gt5.false, eq-eqb _ _ c.if-mode-eq5.true, ← c.plus.ensures, ← c.load.ensures, c.in-Err.is, ← c.refused.ensures)
 
 pub returns-then-mode-eq5 : goal.returns-then-mode-eq5
 unfolding mac_with_load_of
 returns-then-mode-eq5 c =
-    rw (← c.address-a.ensures, le-ltb _ _ c.if-mode-gt5.false, eq-eqb _ _ c.if-mode-eq5.true, ← c.plus.ensures, ← c.load.ensures, c.in-Value.is, ← c.sign_extended.ensures, ← c.plus-base.ensures, ← c.plus-then-mode-eq5.ensures, ← c.mac_load.ensures)
+    rw (← c.address-a.ensures, le-ltb _ _ c.if-mode-gt5.false, eq-eqb _ _ c.if-mode-eq5.true, ← c.plus.ensures, ← c.load.ensures, c.in-Ok.is, ← c.sign_extended.ensures, ← c.plus-base.ensures, ← c.plus-then-mode-eq5.ensures, ← c.mac_load.ensures)
 
 pub returns-then-mode-eq4 : goal.returns-then-mode-eq4
 unfolding mac_with_load_of

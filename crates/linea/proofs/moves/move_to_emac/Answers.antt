@@ -1,15 +1,15 @@
 use Rattle.instructions.specs.LineA.{move_to_emac as move_to_emac_of}
 use Rattle.linea.proofs.moves.move_to_emac.Goals as goal
 
-pub returns-in-Fault : goal.returns-in-Fault
+pub returns-in-Err : goal.returns-in-Err
 unfolding move_to_emac_of
-returns-in-Fault c =
-    rw (← c.plus.ensures, ← c.source-from.ensures, c.in-Fault.is, ← c.refused.ensures)
+returns-in-Err c =
+    rw (← c.plus.ensures, ← c.source-from.ensures, c.in-Err.is, ← c.refused.ensures)
 
 pub returns : goal.returns
 unfolding move_to_emac_of
 returns c =
-    rw (← c.plus.ensures, ← c.source-from.ensures, c.in-Value.is, ← c.setting.ensures, ← c.acting.ensures)
+    rw (← c.plus.ensures, ← c.source-from.ensures, c.in-Ok.is, ← c.setting.ensures, ← c.acting.ensures)
 
 pub plus-requires : goal.plus-requires
 plus-requires c = tt

@@ -1,15 +1,15 @@
 use Rattle.instructions.specs.LineA.{unassigned as unassigned_of}
 use Rattle.linea.proofs.moves.unassigned.Goals as goal
 
-pub returns-in-Value : goal.returns-in-Value
+pub returns-in-Ok : goal.returns-in-Ok
 unfolding unassigned_of
-returns-in-Value c =
-    rw (← c.plus.ensures, ← c.source-from.ensures, c.in-Value.is, ← c.enter_after.ensures)
+returns-in-Ok c =
+    rw (← c.plus.ensures, ← c.source-from.ensures, c.in-Ok.is, ← c.enter_after.ensures)
 
-pub returns-in-Fault : goal.returns-in-Fault
+pub returns-in-Err : goal.returns-in-Err
 unfolding unassigned_of
-returns-in-Fault c =
-    rw (← c.plus.ensures, ← c.source-from.ensures, c.in-Fault.is, ← c.refused.ensures)
+returns-in-Err c =
+    rw (← c.plus.ensures, ← c.source-from.ensures, c.in-Err.is, ← c.refused.ensures)
 
 pub plus-requires : goal.plus-requires
 plus-requires c = tt

@@ -1,12 +1,12 @@
 use Rattle.instructions.specs.Line0.{logic_immediate as logic_immediate_of}
 use Rattle.lines0to3.proofs.line0.logic_immediate.Goals as goal
 
-pub returns-in-Fault : goal.returns-in-Fault
+pub returns-in-Err : goal.returns-in-Err
 unfolding logic_immediate_of
-returns-in-Fault c =
-    rw (← c.plus-pc.ensures, ← c.load.ensures, c.in-Fault.is, ← c.refused.ensures)
+returns-in-Err c =
+    rw (← c.plus-pc.ensures, ← c.load.ensures, c.in-Err.is, ← c.refused.ensures)
 
 pub returns : goal.returns
 unfolding logic_immediate_of
 returns c =
-    rw (← c.plus-pc.ensures, ← c.load.ensures, c.in-Value.is, ← c.data.ensures, ← c.logic-r.ensures, ← c.plus-next.ensures, ← c.move_codes-codes.ensures, ← c.no_write-none.ensures, ← c.write_data.ensures, ← c.done.ensures)
+    rw (← c.plus-pc.ensures, ← c.load.ensures, c.in-Ok.is, ← c.data.ensures, ← c.logic-r.ensures, ← c.plus-next.ensures, ← c.move_codes-codes.ensures, ← c.no_write-none.ensures, ← c.write_data.ensures, ← c.done.ensures)

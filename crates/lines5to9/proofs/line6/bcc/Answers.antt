@@ -1,20 +1,20 @@
 use Rattle.instructions.specs.Line6.{bcc as bcc_of}
 use Rattle.lines5to9.proofs.line6.bcc.Goals as goal
 
-pub returns-in-Fault : goal.returns-in-Fault
+pub returns-in-Err : goal.returns-in-Err
 unfolding bcc_of
-returns-in-Fault c =
-    rw (← c.plus-pc.ensures, ← c.displacement.ensures, c.in-Fault.is, ← c.refused.ensures)
+returns-in-Err c =
+    rw (← c.plus-pc.ensures, ← c.displacement.ensures, c.in-Err.is, ← c.refused.ensures)
 
 pub returns-then-condition : goal.returns-then-condition
 unfolding bcc_of
 returns-then-condition c =
-    rw (← c.plus-pc.ensures, ← c.displacement.ensures, c.in-Value.is, ← c.condition.ensures, c.if-condition.true, ← c.plus.ensures, ← c.jump.ensures)
+    rw (← c.plus-pc.ensures, ← c.displacement.ensures, c.in-Ok.is, ← c.condition.ensures, c.if-condition.true, ← c.plus.ensures, ← c.jump.ensures)
 
 pub returns-else-condition : goal.returns-else-condition
 unfolding bcc_of
 returns-else-condition c =
-    rw (← c.plus-pc.ensures, ← c.displacement.ensures, c.in-Value.is, ← c.condition.ensures, c.if-condition.false, ← c.displacement_bytes.ensures, ← c.plus-else-condition.ensures, ← c.jump-else-condition.ensures)
+    rw (← c.plus-pc.ensures, ← c.displacement.ensures, c.in-Ok.is, ← c.condition.ensures, c.if-condition.false, ← c.displacement_bytes.ensures, ← c.plus-else-condition.ensures, ← c.jump-else-condition.ensures)
 
 pub plus-pc-requires : goal.plus-pc-requires
 plus-pc-requires c = tt

@@ -1,15 +1,15 @@
 use Rattle.instructions.specs.Line6.{bsr as bsr_of}
 use Rattle.lines5to9.proofs.line6.bsr.Goals as goal
 
-pub returns-in-Fault : goal.returns-in-Fault
+pub returns-in-Err : goal.returns-in-Err
 unfolding bsr_of
-returns-in-Fault c =
-    rw (← c.plus-pc.ensures, ← c.displacement.ensures, c.in-Fault.is, ← c.refused.ensures)
+returns-in-Err c =
+    rw (← c.plus-pc.ensures, ← c.displacement.ensures, c.in-Err.is, ← c.refused.ensures)
 
 pub returns : goal.returns
 unfolding bsr_of
 returns c =
-    rw (← c.plus-pc.ensures, ← c.displacement.ensures, c.in-Value.is, ← c.plus-target.ensures, ← c.displacement_bytes.ensures, ← c.plus.ensures, ← c.push.ensures)
+    rw (← c.plus-pc.ensures, ← c.displacement.ensures, c.in-Ok.is, ← c.plus-target.ensures, ← c.displacement_bytes.ensures, ← c.plus.ensures, ← c.push.ensures)
 
 pub plus-pc-requires : goal.plus-pc-requires
 plus-pc-requires c = tt

@@ -2,15 +2,15 @@ use borrow.Author.Tests.{eq-eqb, ne_eqb}
 use Rattle.instructions.specs.Line6.{displacement as displacement_of}
 use Rattle.lines5to9.proofs.line6.displacement.Goals as goal
 
-pub returns-in-Value : goal.returns-in-Value
+pub returns-in-Ok : goal.returns-in-Ok
 unfolding displacement_of
-returns-in-Value c =
-    rw (eq-eqb _ _ c.if-low-eq0.true, ← c.load.ensures, c.in-Value.is, ← c.sign_extended.ensures)
+returns-in-Ok c =
+    rw (eq-eqb _ _ c.if-low-eq0.true, ← c.load.ensures, c.in-Ok.is, ← c.sign_extended.ensures)
 
-pub returns-in-Fault : goal.returns-in-Fault
+pub returns-in-Err : goal.returns-in-Err
 unfolding displacement_of
-returns-in-Fault c =
-    rw (eq-eqb _ _ c.if-low-eq0.true, ← c.load.ensures, c.in-Fault.is)
+returns-in-Err c =
+    rw (eq-eqb _ _ c.if-low-eq0.true, ← c.load.ensures, c.in-Err.is)
 
 pub returns-then-low-eq255 : goal.returns-then-low-eq255
 unfolding displacement_of

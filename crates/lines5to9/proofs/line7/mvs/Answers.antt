@@ -1,15 +1,15 @@
 use Rattle.instructions.specs.Line7.{mvs as mvs_of}
 use Rattle.lines5to9.proofs.line7.mvs.Goals as goal
 
-pub returns-in-Fault : goal.returns-in-Fault
+pub returns-in-Err : goal.returns-in-Err
 unfolding mvs_of
-returns-in-Fault c =
-    rw (← c.byte_or_word-z.ensures, ← c.plus.ensures, ← c.source-from.ensures, c.in-Fault.is, ← c.refused.ensures)
+returns-in-Err c =
+    rw (← c.byte_or_word-z.ensures, ← c.plus.ensures, ← c.source-from.ensures, c.in-Err.is, ← c.refused.ensures)
 
 pub returns : goal.returns
 unfolding mvs_of
 returns c =
-    rw (← c.byte_or_word-z.ensures, ← c.plus.ensures, ← c.source-from.ensures, c.in-Value.is, ← c.sign_extended-whole.ensures, ← c.move_codes-codes.ensures, ← c.write_data.ensures, ← c.done.ensures)
+    rw (← c.byte_or_word-z.ensures, ← c.plus.ensures, ← c.source-from.ensures, c.in-Ok.is, ← c.sign_extended-whole.ensures, ← c.move_codes-codes.ensures, ← c.write_data.ensures, ← c.done.ensures)
 
 pub byte_or_word-z-requires : goal.byte_or_word-z-requires
 byte_or_word-z-requires c = tt

@@ -1,15 +1,15 @@
 use Rattle.instructions.specs.Line7.{mvz as mvz_of}
 use Rattle.lines5to9.proofs.line7.mvz.Goals as goal
 
-pub returns-in-Fault : goal.returns-in-Fault
+pub returns-in-Err : goal.returns-in-Err
 unfolding mvz_of
-returns-in-Fault c =
-    rw (← c.plus.ensures, ← c.byte_or_word.ensures, ← c.source-from.ensures, c.in-Fault.is, ← c.refused.ensures)
+returns-in-Err c =
+    rw (← c.plus.ensures, ← c.byte_or_word.ensures, ← c.source-from.ensures, c.in-Err.is, ← c.refused.ensures)
 
 pub returns : goal.returns
 unfolding mvz_of
 returns c =
-    rw (← c.plus.ensures, ← c.byte_or_word.ensures, ← c.source-from.ensures, c.in-Value.is, ← c.move_codes-codes.ensures, ← c.write_data.ensures, ← c.done.ensures)
+    rw (← c.plus.ensures, ← c.byte_or_word.ensures, ← c.source-from.ensures, c.in-Ok.is, ← c.move_codes-codes.ensures, ← c.write_data.ensures, ← c.done.ensures)
 
 pub plus-requires : goal.plus-requires
 plus-requires c = tt

@@ -1,15 +1,15 @@
 use Rattle.instructions.specs.Line9D.{add_to_place as add_to_place_of}
 use Rattle.lines5to9.proofs.sums.add_to_place.Goals as goal
 
-pub returns-in-Fault : goal.returns-in-Fault
+pub returns-in-Err : goal.returns-in-Err
 unfolding add_to_place_of
-returns-in-Fault c =
-    rw (← c.plus.ensures, ← c.destination-to.ensures, ← c.fetch.ensures, c.in-Fault.is, ← c.refused.ensures)
+returns-in-Err c =
+    rw (← c.plus.ensures, ← c.destination-to.ensures, ← c.fetch.ensures, c.in-Err.is, ← c.refused.ensures)
 
 pub returns : goal.returns
 unfolding add_to_place_of
 returns c =
-    rw (← c.plus.ensures, ← c.destination-to.ensures, ← c.fetch.ensures, c.in-Value.is, ← c.sum_or_difference-r.ensures, ← c.sum_codes-codes.ensures, ← c.put_to.ensures)
+    rw (← c.plus.ensures, ← c.destination-to.ensures, ← c.fetch.ensures, c.in-Ok.is, ← c.sum_or_difference-r.ensures, ← c.sum_codes-codes.ensures, ← c.put_to.ensures)
 
 pub plus-requires : goal.plus-requires
 plus-requires c = tt

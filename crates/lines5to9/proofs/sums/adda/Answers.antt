@@ -1,15 +1,15 @@
 use Rattle.instructions.specs.Line9D.{adda as adda_of}
 use Rattle.lines5to9.proofs.sums.adda.Goals as goal
 
-pub returns-in-Fault : goal.returns-in-Fault
+pub returns-in-Err : goal.returns-in-Err
 unfolding adda_of
-returns-in-Fault c =
-    rw (← c.plus.ensures, ← c.source-from.ensures, c.in-Fault.is, ← c.refused.ensures)
+returns-in-Err c =
+    rw (← c.plus.ensures, ← c.source-from.ensures, c.in-Err.is, ← c.refused.ensures)
 
 pub returns : goal.returns
 unfolding adda_of
 returns c =
-    rw (← c.plus.ensures, ← c.source-from.ensures, c.in-Value.is, ← c.address_after-old.ensures, ← c.sign_extended.ensures, ← c.more_or_less-r.ensures, ← c.kept_codes-codes.ensures, ← c.write_address.ensures, ← c.done.ensures)
+    rw (← c.plus.ensures, ← c.source-from.ensures, c.in-Ok.is, ← c.address_after-old.ensures, ← c.sign_extended.ensures, ← c.more_or_less-r.ensures, ← c.kept_codes-codes.ensures, ← c.write_address.ensures, ← c.done.ensures)
 
 pub plus-requires : goal.plus-requires
 plus-requires c = tt

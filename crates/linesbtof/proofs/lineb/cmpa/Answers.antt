@@ -1,15 +1,15 @@
 use Rattle.instructions.specs.LineB.{cmpa as cmpa_of}
 use Rattle.linesbtof.proofs.lineb.cmpa.Goals as goal
 
-pub returns-in-Fault : goal.returns-in-Fault
+pub returns-in-Err : goal.returns-in-Err
 unfolding cmpa_of
-returns-in-Fault c =
-    rw (← c.plus.ensures, ← c.source-from.ensures, c.in-Fault.is, ← c.refused.ensures)
+returns-in-Err c =
+    rw (← c.plus.ensures, ← c.source-from.ensures, c.in-Err.is, ← c.refused.ensures)
 
 pub returns : goal.returns
 unfolding cmpa_of
 returns c =
-    rw (← c.plus.ensures, ← c.source-from.ensures, c.in-Value.is, ← c.address_after-old.ensures, ← c.sign_extended.ensures, ← c.subtracted-r.ensures, ← c.compare_codes-codes.ensures, ← c.no_write.ensures, ← c.done.ensures)
+    rw (← c.plus.ensures, ← c.source-from.ensures, c.in-Ok.is, ← c.address_after-old.ensures, ← c.sign_extended.ensures, ← c.subtracted-r.ensures, ← c.compare_codes-codes.ensures, ← c.no_write.ensures, ← c.done.ensures)
 
 pub plus-requires : goal.plus-requires
 plus-requires c = tt

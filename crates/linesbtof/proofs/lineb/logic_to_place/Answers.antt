@@ -1,15 +1,15 @@
 use Rattle.instructions.specs.LineB.{logic_to_place as logic_to_place_of}
 use Rattle.linesbtof.proofs.lineb.logic_to_place.Goals as goal
 
-pub returns-in-Fault : goal.returns-in-Fault
+pub returns-in-Err : goal.returns-in-Err
 unfolding logic_to_place_of
-returns-in-Fault c =
-    rw (← c.size_of-z.ensures, ← c.plus.ensures, ← c.destination-to.ensures, ← c.fetch.ensures, c.in-Fault.is, ← c.refused.ensures)
+returns-in-Err c =
+    rw (← c.size_of-z.ensures, ← c.plus.ensures, ← c.destination-to.ensures, ← c.fetch.ensures, c.in-Err.is, ← c.refused.ensures)
 
 pub returns : goal.returns
 unfolding logic_to_place_of
 returns c =
-    rw (← c.size_of-z.ensures, ← c.plus.ensures, ← c.destination-to.ensures, ← c.fetch.ensures, c.in-Value.is, ← c.data.ensures, ← c.logic-r.ensures, ← c.move_codes.ensures, ← c.put_to.ensures)
+    rw (← c.size_of-z.ensures, ← c.plus.ensures, ← c.destination-to.ensures, ← c.fetch.ensures, c.in-Ok.is, ← c.data.ensures, ← c.logic-r.ensures, ← c.move_codes.ensures, ← c.put_to.ensures)
 
 pub size_of-z-requires : goal.size_of-z-requires
 size_of-z-requires c = tt

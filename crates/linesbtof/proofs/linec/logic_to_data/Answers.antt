@@ -1,15 +1,15 @@
 use Rattle.instructions.specs.LineC.{logic_to_data as logic_to_data_of}
 use Rattle.linesbtof.proofs.linec.logic_to_data.Goals as goal
 
-pub returns-in-Fault : goal.returns-in-Fault
+pub returns-in-Err : goal.returns-in-Err
 unfolding logic_to_data_of
-returns-in-Fault c =
-    rw (← c.size_of-z.ensures, ← c.plus.ensures, ← c.source-from.ensures, c.in-Fault.is, ← c.refused.ensures)
+returns-in-Err c =
+    rw (← c.size_of-z.ensures, ← c.plus.ensures, ← c.source-from.ensures, c.in-Err.is, ← c.refused.ensures)
 
 pub returns : goal.returns
 unfolding logic_to_data_of
 returns c =
-    rw (← c.size_of-z.ensures, ← c.plus.ensures, ← c.source-from.ensures, c.in-Value.is, ← c.data-old.ensures, ← c.logic-r.ensures, ← c.move_codes-codes.ensures, ← c.merged.ensures, ← c.write_data.ensures, ← c.done.ensures)
+    rw (← c.size_of-z.ensures, ← c.plus.ensures, ← c.source-from.ensures, c.in-Ok.is, ← c.data-old.ensures, ← c.logic-r.ensures, ← c.move_codes-codes.ensures, ← c.merged.ensures, ← c.write_data.ensures, ← c.done.ensures)
 
 pub size_of-z-requires : goal.size_of-z-requires
 size_of-z-requires c = tt

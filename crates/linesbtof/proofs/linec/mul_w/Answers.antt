@@ -1,15 +1,15 @@
 use Rattle.instructions.specs.LineC.{mul_w as mul_w_of}
 use Rattle.linesbtof.proofs.linec.mul_w.Goals as goal
 
-pub returns-in-Fault : goal.returns-in-Fault
+pub returns-in-Err : goal.returns-in-Err
 unfolding mul_w_of
-returns-in-Fault c =
-    rw (← c.plus.ensures, ← c.source-from.ensures, c.in-Fault.is, ← c.refused.ensures)
+returns-in-Err c =
+    rw (← c.plus.ensures, ← c.source-from.ensures, c.in-Err.is, ← c.refused.ensures)
 
 pub returns : goal.returns
 unfolding mul_w_of
 returns c =
-    rw (← c.plus.ensures, ← c.source-from.ensures, c.in-Value.is, ← c.data.ensures, ← c.product-r.ensures, ← c.move_codes-codes.ensures, ← c.write_data.ensures, ← c.done.ensures)
+    rw (← c.plus.ensures, ← c.source-from.ensures, c.in-Ok.is, ← c.data.ensures, ← c.product-r.ensures, ← c.move_codes-codes.ensures, ← c.write_data.ensures, ← c.done.ensures)
 
 pub plus-requires : goal.plus-requires
 plus-requires c = tt

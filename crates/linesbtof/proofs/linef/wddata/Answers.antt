@@ -21,10 +21,10 @@ unfolding wddata_of
 returns-in-I c =
     rw (← c.plus.ensures, ← c.size_of.ensures, ← c.destination-to.ensures, ← c.kept_codes-codes.ensures, ← c.no_write-none.ensures, c.in-I.is, ← c.done-in-I.ensures)
 
-pub returns-in-Fault : goal.returns-in-Fault
+pub returns-in-Err : goal.returns-in-Err
 unfolding wddata_of
-returns-in-Fault c =
-    rw (← c.plus.ensures, ← c.size_of.ensures, ← c.destination-to.ensures, ← c.kept_codes-codes.ensures, ← c.no_write-none.ensures, c.in-Fault.is, ← c.refused.ensures)
+returns-in-Err c =
+    rw (← c.plus.ensures, ← c.size_of.ensures, ← c.destination-to.ensures, ← c.kept_codes-codes.ensures, ← c.no_write-none.ensures, c.in-Err.is, ← c.refused.ensures)
 
 pub plus-requires : goal.plus-requires
 plus-requires c = tt

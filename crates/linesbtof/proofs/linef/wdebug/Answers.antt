@@ -6,15 +6,15 @@ unfolding wdebug_of
 returns-in_default c =
     rw (← c.operand-target.ensures, ← c.plus-pc.ensures, ← c.control.ensures, c.in_default.is, ← c.plus.ensures, ← c.jump.ensures)
 
-pub returns-in-Value : goal.returns-in-Value
+pub returns-in-Ok : goal.returns-in-Ok
 unfolding wdebug_of
-returns-in-Value c =
-    rw (← c.operand-target.ensures, ← c.plus-pc.ensures, ← c.control.ensures, c.in-At.is, c.in-Value.is, ← c.extension.ensures, ← c.plus-in-Value.ensures, ← c.plus-in-Value-2.ensures, ← c.jump-in-Value.ensures)
+returns-in-Ok c =
+    rw (← c.operand-target.ensures, ← c.plus-pc.ensures, ← c.control.ensures, c.in-Some.is, c.in-Ok.is, ← c.extension.ensures, ← c.plus-in-Ok.ensures, ← c.plus-in-Ok-2.ensures, ← c.jump-in-Ok.ensures)
 
-pub returns-in-Fault : goal.returns-in-Fault
+pub returns-in-Err : goal.returns-in-Err
 unfolding wdebug_of
-returns-in-Fault c =
-    rw (← c.operand-target.ensures, ← c.plus-pc.ensures, ← c.control.ensures, c.in-At.is, c.in-Fault.is, ← c.refused.ensures)
+returns-in-Err c =
+    rw (← c.operand-target.ensures, ← c.plus-pc.ensures, ← c.control.ensures, c.in-Some.is, c.in-Err.is, ← c.refused.ensures)
 
 pub operand-target-requires : goal.operand-target-requires
 operand-target-requires c = tt
@@ -34,14 +34,14 @@ jump-requires c = tt
 pub extension-requires : goal.extension-requires
 extension-requires c = tt
 
-pub plus-requires-in-Value : goal.plus-requires-in-Value
-plus-requires-in-Value c = tt
+pub plus-requires-in-Ok : goal.plus-requires-in-Ok
+plus-requires-in-Ok c = tt
 
-pub plus-requires-in-Value-2 : goal.plus-requires-in-Value-2
-plus-requires-in-Value-2 c = tt
+pub plus-requires-in-Ok-2 : goal.plus-requires-in-Ok-2
+plus-requires-in-Ok-2 c = tt
 
-pub jump-requires-in-Value : goal.jump-requires-in-Value
-jump-requires-in-Value c = tt
+pub jump-requires-in-Ok : goal.jump-requires-in-Ok
+jump-requires-in-Ok c = tt
 
 pub refused-requires : goal.refused-requires
 refused-requires c = tt

@@ -13,30 +13,30 @@ unfolding perform_of
 returns-in-Done c =
     rw (← c.applied-cpu.ensures, c.in-Store.is, c.store.ensures.1, ← c.store.ensures.0, c.in-Done.is, ← c.completed-in-Done.ensures)
 
-pub returns-in-Fault : goal.returns-in-Fault
+pub returns-in-Err : goal.returns-in-Err
 unfolding perform_of
-returns-in-Fault c =
-    rw (← c.applied-cpu.ensures, c.in-Store.is, c.store.ensures.1, not-stored _ _ _ _ _ _ c.store.ensures.0 c.in-Fault.is, ← c.store.ensures.0, c.in-Fault.is, ← c.faulted.ensures)
+returns-in-Err c =
+    rw (← c.applied-cpu.ensures, c.in-Store.is, c.store.ensures.1, not-stored _ _ _ _ _ _ c.store.ensures.0 c.in-Err.is, ← c.store.ensures.0, c.in-Err.is, ← c.faulted.ensures)
 
 pub returns-in-Done-store_many : goal.returns-in-Done-store_many
 unfolding perform_of
 returns-in-Done-store_many c =
     rw (← c.applied-cpu.ensures, c.in-StoreMany.is, c.store_many.ensures.1, ← c.store_many.ensures.0, c.in-Done-store_many.is, ← c.completed-in-Done-store_many.ensures)
 
-pub returns-in-Fault-store_many : goal.returns-in-Fault-store_many
+pub returns-in-Err-store_many : goal.returns-in-Err-store_many
 unfolding perform_of
-returns-in-Fault-store_many c =
-    rw (← c.applied-cpu.ensures, c.in-StoreMany.is, c.store_many.ensures.1, ← c.store_many.ensures.0, c.in-Fault-store_many.is, ← c.faulted-in-Fault-store_many.ensures)
+returns-in-Err-store_many c =
+    rw (← c.applied-cpu.ensures, c.in-StoreMany.is, c.store_many.ensures.1, ← c.store_many.ensures.0, c.in-Err-store_many.is, ← c.faulted-in-Err-store_many.ensures)
 
 pub returns-in-Done-load_many : goal.returns-in-Done-load_many
 unfolding perform_of
 returns-in-Done-load_many c =
     rw (← c.applied-cpu.ensures, c.in-LoadMany.is, c.completed-in-Done-load_many.ensures, c.with_registers.ensures, c.load_many.ensures.1, ← c.load_many.ensures.0, c.in-Done-load_many.is)
 
-pub returns-in-Fault-load_many : goal.returns-in-Fault-load_many
+pub returns-in-Err-load_many : goal.returns-in-Err-load_many
 unfolding perform_of
-returns-in-Fault-load_many c =
-    rw (← c.applied-cpu.ensures, c.in-LoadMany.is, ← c.load_many.ensures.0, c.in-Fault-load_many.is, ← c.faulted-in-Fault-load_many.ensures)
+returns-in-Err-load_many c =
+    rw (← c.applied-cpu.ensures, c.in-LoadMany.is, ← c.load_many.ensures.0, c.in-Err-load_many.is, ← c.faulted-in-Err-load_many.ensures)
 
 pub returns-in-Enter : goal.returns-in-Enter
 unfolding perform_of

@@ -8,7 +8,7 @@ unfolding status_pushed_of
 returns-in-Done c =
     rw (← c.address.ensures, ← c.minus-sp.ensures, c.store.ensures.1, ← c.store.ensures.0, c.in-Done.is, ← c.with_address-pushed.ensures, ← c.with_status.ensures, ← c.completed.ensures)
 
-pub returns-in-Fault : goal.returns-in-Fault
+pub returns-in-Err : goal.returns-in-Err
 unfolding status_pushed_of
-returns-in-Fault c =
-    rw (← c.address.ensures, ← c.minus-sp.ensures, c.store.ensures.1, not-stored _ _ _ _ _ _ c.store.ensures.0 c.in-Fault.is, ← c.store.ensures.0, c.in-Fault.is, ← c.faulted.ensures)
+returns-in-Err c =
+    rw (← c.address.ensures, ← c.minus-sp.ensures, c.store.ensures.1, not-stored _ _ _ _ _ _ c.store.ensures.0 c.in-Err.is, ← c.store.ensures.0, c.in-Err.is, ← c.faulted.ensures)

@@ -17,11 +17,11 @@ returns-then-rest c =
     let i = c.loop-n.invariant in
     rw c.ended.ensures (laws.halts (laws.turned c.loop-n-test.true i.2 i.3) _ c.if-rest.true c.assembled-last.ensures)
 
-pub returns-in-Fault : goal.returns-in-Fault
-returns-in-Fault c =
+pub returns-in-Err : goal.returns-in-Err
+returns-in-Err c =
     let i = c.loop-n.invariant in
-    rw (c.ended-in-Fault.ensures, c.fault_reply.ensures)
-    (laws.unfetched (laws.turned c.loop-n-test.true i.2 i.3) c.if-rest.false _ _ c.load.ensures c.in-Fault.is _ c.assembled-last-in-Fault.ensures)
+    rw (c.ended-in-Err.ensures, c.fault_reply.ensures)
+    (laws.unfetched (laws.turned c.loop-n-test.true i.2 i.3) c.if-rest.false _ _ c.load.ensures c.in-Err.is _ c.assembled-last-in-Err.ensures)
 
 pub loop-n-preserved-in-Done : goal.loop-n-preserved-in-Done
 loop-n-preserved-in-Done c =
@@ -30,7 +30,7 @@ loop-n-preserved-in-Done c =
     let e = emac_of x.macsr x.mask x.acc in
     let p = c.in_place in
     let d = c.in-Done in
-    let f = laws.fetched_at (laws.turned c.loop-n-test.true i.2 i.3) c.if-rest.false (sym c.load.ensures ∙ c.in-Value.is) (c.row_by-row.ensures ∙ c.requires.1 c.in-Value.op) in
+    let f = laws.fetched_at (laws.turned c.loop-n-test.true i.2 i.3) c.if-rest.false (sym c.load.ensures ∙ c.in-Ok.is) (c.row_by-row.ensures ∙ c.requires.1 c.in-Ok.op) in
     let next = with_parts p.new.g d.next d.now e x.rest in
     let done = laws.in_place f p.new.g p.new.mem p.result (p.ensures x.rest.other e) d.next d.now d.is in
     let o = laws.goes_on f (completed_step next) p.new.mem p.auto.mem done refl in
@@ -41,7 +41,7 @@ loop-n-preserved-in-Done-summed c =
     let x = c.loop-n in
     let i = x.invariant in
     let p = c.in_place in
-    let f = laws.fetched_at (laws.turned c.loop-n-test.true i.2 i.3) c.if-rest.false (sym c.load.ensures ∙ c.in-Value.is) (c.row_by-row.ensures ∙ c.requires.1 c.in-Value.op) in
+    let f = laws.fetched_at (laws.turned c.loop-n-test.true i.2 i.3) c.if-rest.false (sym c.load.ensures ∙ c.in-Ok.is) (c.row_by-row.ensures ∙ c.requires.1 c.in-Ok.op) in
     let l = laws.again f p.new.g p.new.mem p.result (p.ensures x.rest.other (emac_of x.macsr x.mask x.acc)) c.in_default.is in
     let s = c.summed in
     let d = c.in-Done-summed in
@@ -55,7 +55,7 @@ loop-n-preserved-in-Done-plain c =
     let x = c.loop-n in
     let i = x.invariant in
     let p = c.in_place in
-    let f = laws.fetched_at (laws.turned c.loop-n-test.true i.2 i.3) c.if-rest.false (sym c.load.ensures ∙ c.in-Value.is) (c.row_by-row.ensures ∙ c.requires.1 c.in-Value.op) in
+    let f = laws.fetched_at (laws.turned c.loop-n-test.true i.2 i.3) c.if-rest.false (sym c.load.ensures ∙ c.in-Ok.is) (c.row_by-row.ensures ∙ c.requires.1 c.in-Ok.op) in
     let l = laws.again f p.new.g p.new.mem p.result (p.ensures x.rest.other (emac_of x.macsr x.mask x.acc)) c.in_default.is in
     let s = c.summed in
     let l2 = laws.again-unit x.macsr x.mask x.acc l s.new.g s.new.acc s.result (s.ensures x.rest.other) c.in_default-summed.is in
@@ -72,7 +72,7 @@ returns-then-not-is_done c =
     let x = c.loop-n in
     let i = x.invariant in
     let p = c.in_place in
-    let f = laws.fetched_at (laws.turned c.loop-n-test.true i.2 i.3) c.if-rest.false (sym c.load.ensures ∙ c.in-Value.is) (c.row_by-row.ensures ∙ c.requires.1 c.in-Value.op) in
+    let f = laws.fetched_at (laws.turned c.loop-n-test.true i.2 i.3) c.if-rest.false (sym c.load.ensures ∙ c.in-Ok.is) (c.row_by-row.ensures ∙ c.requires.1 c.in-Ok.op) in
     let l = laws.again f p.new.g p.new.mem p.result (p.ensures x.rest.other (emac_of x.macsr x.mask x.acc)) c.in_default.is in
     let s = c.summed in
     let l2 = laws.again-unit x.macsr x.mask x.acc l s.new.g s.new.acc s.result (s.ensures x.rest.other) c.in_default-summed.is in
@@ -88,7 +88,7 @@ loop-n-preserved c =
     let x = c.loop-n in
     let i = x.invariant in
     let p = c.in_place in
-    let f = laws.fetched_at (laws.turned c.loop-n-test.true i.2 i.3) c.if-rest.false (sym c.load.ensures ∙ c.in-Value.is) (c.row_by-row.ensures ∙ c.requires.1 c.in-Value.op) in
+    let f = laws.fetched_at (laws.turned c.loop-n-test.true i.2 i.3) c.if-rest.false (sym c.load.ensures ∙ c.in-Ok.is) (c.row_by-row.ensures ∙ c.requires.1 c.in-Ok.op) in
     let l = laws.again f p.new.g p.new.mem p.result (p.ensures x.rest.other (emac_of x.macsr x.mask x.acc)) c.in_default.is in
     let s = c.summed in
     let l2 = laws.again-unit x.macsr x.mask x.acc l s.new.g s.new.acc s.result (s.ensures x.rest.other) c.in_default-summed.is in

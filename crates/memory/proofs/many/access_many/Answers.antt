@@ -3,9 +3,9 @@ use Rattle.std.proofs.Common.{sym, ◌∙◌, rules}
 use Rattle.memory.proofs.ManyLaws.{access-on, access-not, access-past, access-none}
 use Rattle.memory.proofs.many.access_many.Goals as goal
 
-pub returns-in-Not : goal.returns-in-Not
-returns-in-Not c =
-    access-not _ c.loop-n-test.true _ _ _ _ _ _ c.if-mask-eq1.true c.access.ensures c.in-Not.is c.loop-n.invariant.1
+pub returns-in-Err : goal.returns-in-Err
+returns-in-Err c =
+    access-not _ c.loop-n-test.true _ _ _ _ _ _ c.if-mask-eq1.true c.access.ensures c.in-Err.is c.loop-n.invariant.1
 
 pub loop-n-preserved-then-mask-eq1 : goal.loop-n-preserved-then-mask-eq1
 loop-n-preserved-then-mask-eq1 c = (

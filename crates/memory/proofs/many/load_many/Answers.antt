@@ -5,5 +5,5 @@ use Rattle.memory.proofs.many.load_many.Goals as goal
 pub returns-in-Done : goal.returns-in-Done
 returns-in-Done c = (sym c.in-Done.is ∙ c.access_many.ensures, c.load_all.ensures)
 
-pub returns-in-Fault : goal.returns-in-Fault
-returns-in-Fault c = (sym c.in-Fault.is ∙ c.access_many.ensures, refl)
+pub returns-in-Err : goal.returns-in-Err
+returns-in-Err c = (sym c.in-Err.is ∙ c.access_many.ensures, refl)

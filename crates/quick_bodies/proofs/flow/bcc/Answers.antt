@@ -7,12 +7,12 @@ use Rattle.quick_bodies.proofs.flow.bcc.Goals as goal
 pub returns-then-holds : goal.returns-then-holds
 unfolding bcc_of displacement_of displacement_bytes_of
 returns-then-holds c =
-    rw (c.if-low-eq0.true, ← c.plus-at.ensures, ← c.load.ensures, c.in-Value.is, ← c.condition-holds.ensures, c.if-holds.true, ← c.sign_extended.ensures, ← c.plus.ensures, ← c.jump.ensures) (c.changed.ensures _)
+    rw (c.if-low-eq0.true, ← c.plus-at.ensures, ← c.load.ensures, c.in-Ok.is, ← c.condition-holds.ensures, c.if-holds.true, ← c.sign_extended.ensures, ← c.plus.ensures, ← c.jump.ensures) (c.changed.ensures _)
 
 pub returns-then-low-eq0 : goal.returns-then-low-eq0
 unfolding bcc_of displacement_of displacement_bytes_of
 returns-then-low-eq0 c =
-    rw (c.if-low-eq0.true, ← c.plus-at.ensures, ← c.load.ensures, c.in-Value.is, ← c.condition-holds.ensures, c.if-holds.false, ← c.plus-then-low-eq0.ensures, ← c.jump-then-low-eq0.ensures) (c.changed-then-low-eq0.ensures _)
+    rw (c.if-low-eq0.true, ← c.plus-at.ensures, ← c.load.ensures, c.in-Ok.is, ← c.condition-holds.ensures, c.if-holds.false, ← c.plus-then-low-eq0.ensures, ← c.jump-then-low-eq0.ensures) (c.changed-then-low-eq0.ensures _)
 
 pub returns-then-holds-2 : goal.returns-then-holds-2
 unfolding bcc_of displacement_of displacement_bytes_of

@@ -13,4 +13,4 @@ returns-then-op-eq2 c =
 pub returns : goal.returns
 unfolding jsr_of operand_of locate_of control_of extension_of
 returns c =
-    rw (c.if-op-ne7.false, c.if-op-ne1.false, ← c.plus-at.ensures, ← c.load.ensures, c.in-Value.is, ← c.plus-2.ensures, ← c.push-c-2.ensures) c.stored-2.ensures
+    rw (c.if-op-ne7.false, c.if-op-ne1.false, ← c.plus-at.ensures, ← c.load.ensures, c.in-Ok.is, ← c.plus-2.ensures, ← c.push-c-2.ensures) c.stored-2.ensures

@@ -6,4 +6,4 @@ use Rattle.quick_bodies.proofs.logic.bit_by_immediate.Goals as goal
 pub returns : goal.returns
 unfolding bit_by_immediate_of bit_operation_of
 returns c =
-    rw (eq-eqb _ _ c.if-op-ne0.false, ← c.plus.ensures, ← c.load.ensures, c.in-Value.is, ← c.plus-2.ensures, ← c.bit_of_data.ensures) (c.changed.ensures _)
+    rw (eq-eqb _ _ c.if-op-ne0.false, ← c.plus.ensures, ← c.load.ensures, c.in-Ok.is, ← c.plus-2.ensures, ← c.bit_of_data.ensures) (c.changed.ensures _)

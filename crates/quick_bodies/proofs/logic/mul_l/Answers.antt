@@ -5,4 +5,4 @@ use Rattle.quick_bodies.proofs.logic.mul_l.Goals as goal
 pub returns : goal.returns
 unfolding mul_l_of
 returns c =
-    rw (← c.plus-at.ensures, ← c.load.ensures, c.in-Value.is, ← c.plus.ensures, read_of _ _ _ _ _ c.in-Read.is c.read_long.ensures, ← c.data.ensures, ← c.product-r.ensures, ← c.long_move_codes-codes.ensures, ← c.write_data.ensures, ← c.done.ensures) (c.changed.ensures _)
+    rw (← c.plus-at.ensures, ← c.load.ensures, c.in-Ok.is, ← c.plus.ensures, read_of _ _ _ _ _ c.in-Read.is c.read_long.ensures, ← c.data.ensures, ← c.product-r.ensures, ← c.long_move_codes-codes.ensures, ← c.write_data.ensures, ← c.done.ensures) (c.changed.ensures _)

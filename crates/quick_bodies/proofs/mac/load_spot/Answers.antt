@@ -20,11 +20,11 @@ returns-in-4 c = λ sr macsr.
     rw (c.in-4.is, ← c.address-r.ensures, ← c.minus.ensures, ← c.plus-in-4.ensures)
     (spotted _ _ _ _ _ _ _ _ _ _ _ c.load_address-a-in-4.ensures (rw c.in-4.is c.write_address-in-4.ensures))
 
-pub returns-in-Value : goal.returns-in-Value
+pub returns-in-Ok : goal.returns-in-Ok
 unfolding mac_with_load load_moves
-returns-in-Value c = λ sr macsr.
-    rw (c.in-5.is, ← c.address-r.ensures, ← c.plus-in-5.ensures, ← c.load.ensures, c.in-Value.is, ← c.sign_extended.ensures, ← c.plus-in-Value.ensures, ← c.plus-in-Value-2.ensures)
-    (spotted _ _ _ _ _ _ _ _ _ _ _ c.load_address-a-in-Value.ensures (rw c.in-5.is c.no_write-in-Value.ensures))
+returns-in-Ok c = λ sr macsr.
+    rw (c.in-5.is, ← c.address-r.ensures, ← c.plus-in-5.ensures, ← c.load.ensures, c.in-Ok.is, ← c.sign_extended.ensures, ← c.plus-in-Ok.ensures, ← c.plus-in-Ok-2.ensures)
+    (spotted _ _ _ _ _ _ _ _ _ _ _ c.load_address-a-in-Ok.ensures (rw c.in-5.is c.no_write-in-Ok.ensures))
 
 pub address-r-requires : goal.address-r-requires
 address-r-requires c = tt
@@ -71,14 +71,14 @@ load-requires c = tt
 pub sign_extended-requires : goal.sign_extended-requires
 sign_extended-requires c = tt
 
-pub plus-requires-in-Value : goal.plus-requires-in-Value
-plus-requires-in-Value c = tt
+pub plus-requires-in-Ok : goal.plus-requires-in-Ok
+plus-requires-in-Ok c = tt
 
-pub load_address-a-requires-in-Value : goal.load_address-a-requires-in-Value
-load_address-a-requires-in-Value c = tt
+pub load_address-a-requires-in-Ok : goal.load_address-a-requires-in-Ok
+load_address-a-requires-in-Ok c = tt
 
-pub plus-requires-in-Value-2 : goal.plus-requires-in-Value-2
-plus-requires-in-Value-2 c = tt
+pub plus-requires-in-Ok-2 : goal.plus-requires-in-Ok-2
+plus-requires-in-Ok-2 c = tt
 
-pub no_write-requires-in-Value : goal.no_write-requires-in-Value
-no_write-requires-in-Value c = tt
+pub no_write-requires-in-Ok : goal.no_write-requires-in-Ok
+no_write-requires-in-Ok c = tt

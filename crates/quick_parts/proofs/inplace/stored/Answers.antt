@@ -3,8 +3,8 @@ use Rattle.memory.specs.MemoryLaws.{not-stored}
 use Rattle.quick_parts.specs.Effects.{in_place}
 use Rattle.quick_parts.proofs.inplace.stored.Goals as goal
 
-pub returns-in-Fault : goal.returns-in-Fault
-returns-in-Fault c = let s = c.store in rw (s.ensures.1, not-stored _ _ _ _ _ _ s.ensures.0 c.in-Fault.is)
+pub returns-in-Err : goal.returns-in-Err
+returns-in-Err c = let s = c.store in rw (s.ensures.1, not-stored _ _ _ _ _ _ s.ensures.0 c.in-Err.is)
 
 pub returns : goal.returns
 unfolding in_place

@@ -8,7 +8,7 @@ returns-then-mode-lt2 c =
     let a = c.args in
     rw (c.cut.ensures, c.general.ensures, c.plus.ensures, c.no_write.ensures) (register a.z a.g.now a.mem.now a.pc a.op c.if-mode-lt2.true)
 
-pub returns-in-Value : goal.returns-in-Value
-returns-in-Value c =
+pub returns-in-Ok : goal.returns-in-Ok
+returns-in-Ok c =
     let a = c.args in
-    to_read a.z a.g.now a.mem.now a.pc a.op c.readable.result _ _ _ _ c.readable.ensures c.in-At.is (search rules) (sym c.load.ensures ∙ c.in-Value.is)
+    to_read a.z a.g.now a.mem.now a.pc a.op c.readable.result _ _ _ _ c.readable.ensures c.in-Some.is (search rules) (sym c.load.ensures ∙ c.in-Ok.is)

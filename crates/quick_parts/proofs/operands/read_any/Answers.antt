@@ -8,7 +8,7 @@ returns-then-op-lt2 c =
     let a = c.args in
     rw (c.cut.ensures, c.general.ensures, c.plus.ensures, c.no_write.ensures) (register a.z a.g.now a.mem.now a.pc a.op c.if-op-lt2.true)
 
-pub returns-in-Value : goal.returns-in-Value
-returns-in-Value c =
+pub returns-in-Ok : goal.returns-in-Ok
+returns-in-Ok c =
     let a = c.args in
-    loaded a.z a.g.now a.mem.now a.pc a.op _ _ _ _ (at c.any_spot.result _ _ _ _ c.in-At.is c.any_spot.ensures) (sym c.load.ensures ∙ c.in-Value.is)
+    loaded a.z a.g.now a.mem.now a.pc a.op _ _ _ _ (at c.any_spot.result _ _ _ _ c.in-Some.is c.any_spot.ensures) (sym c.load.ensures ∙ c.in-Ok.is)

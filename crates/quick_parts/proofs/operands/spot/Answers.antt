@@ -15,7 +15,7 @@ unfolding operand locate extension moved
 returns-in-4 c = λ g h.
     rw (c.in-4.is, h, ← c.bytes-in-4.ensures, ← c.minus-b.ensures, ← c.plus-in-4.ensures, ← c.write_address-in-4.ensures)
 
-pub returns-in-Value : goal.returns-in-Value
+pub returns-in-Ok : goal.returns-in-Ok
 unfolding operand locate extension moved
-returns-in-Value c = λ g h.
-    rw (c.in-5.is, h, ← c.load.ensures, c.in-Value.is, ← c.sign_extended.ensures, ← c.plus-b.ensures, ← c.plus-in-Value.ensures, ← c.no_write-in-Value.ensures)
+returns-in-Ok c = λ g h.
+    rw (c.in-5.is, h, ← c.load.ensures, c.in-Ok.is, ← c.sign_extended.ensures, ← c.plus-b.ensures, ← c.plus-in-Ok.ensures, ← c.no_write-in-Ok.ensures)

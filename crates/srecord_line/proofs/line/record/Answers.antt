@@ -31,5 +31,5 @@ returns-in-Skipped c =
     let w = c.in-Skipped.w in
     rw (c.in-Skipped.is, c.skipped.ensures) (skip_says t w c.check.result c.check.ensures, skipped_within t c.check.result)
 
-pub returns-in-Unknown : goal.returns-in-Unknown
-returns-in-Unknown c = rw c.in-Unknown.is (unknown-says c.args.digits.now, tt)
+pub returns-in-None : goal.returns-in-None
+returns-in-None c = rw c.in-None.is (unknown-says c.args.digits.now, tt)

@@ -29,12 +29,12 @@ mask-above sr = omega arith
 mask_below : (sr : ℕ) → sr % 0x100 ≡ sr % 0x2000 % 0x100
 mask_below sr = omega arith
 
-pub returns-in-Kept : goal.returns-in-Kept
+pub returns-in-None : goal.returns-in-None
 unfolding handler_sr_of
-returns-in-Kept c = rw c.in-Kept.is (supervising c.args.sr (omega arith))
+returns-in-None c = rw c.in-None.is (supervising c.args.sr (omega arith))
 
-pub returns-in-To : goal.returns-in-To
+pub returns-in-Some : goal.returns-in-Some
 unfolding handler_sr_of
-returns-in-To c =
+returns-in-Some c =
     let sr : ℕ = c.args.sr in
-    rw (c.in-To.is, ← supervising sr (omega arith), mask-above sr, mask_below sr) (masked (sr / 0x4000 % 2) (sr % 0x2000) _)
+    rw (c.in-Some.is, ← supervising sr (omega arith), mask-above sr, mask_below sr) (masked (sr / 0x4000 % 2) (sr % 0x2000) _)
