@@ -54,7 +54,7 @@ use Rattle.demands.specs.Accesses.{Wanted, none, word_at, long_at, words, named,
 use Rattle.demands.specs.FitLaws.{moved-long}
 use Rattle.demands.specs.Effects as eff
 use Rattle.demands.specs.Effects.{Effect, nothing, stores_many, loads_many, enters, returns, illegal_word, privileged, zero_divide_lem, violation, line-a, line_f_lem, trapped}
-use Rattle.demands.specs.PartLaws.{quiet, Does, does-nothing, does-store, does-push, does_store_many, does_load_many, does-enter, does-return, access_all, Made, illegal-does, privilege-does, cond_made, either-made, either-reads, either-quiet, load-made, fault_of, missing-found, unreached, reading-only, locate-made, put-made, locating-made, source-made, source-only, of_data, missing-immediate, control_missed, reaching-made, end, row, all_made, put_to-made, destination-found, destination-made, updating-made}
+use Rattle.demands.specs.PartLaws.{quiet, Does, does-nothing, does-store, does-push, does_store_many, does_load_many, does-enter, does-return, access_all, Made, illegal-does, privilege-does, cond_made, either-made, either-reads, load-made, fault_of, missing-found, unreached, reading-only, locate-made, put-made, locating-made, source-made, source-only, of_data, missing-immediate, control_missed, reaching-made, end, row, all_made, put_to-made, destination-found, destination-made, updating-made}
 
 module _ (g : List ℕ) (at sr : ℕ) (m : Memory) (op : ℕ) where
   abbrev Makes : List Wanted → Effect → Change → Type 0
