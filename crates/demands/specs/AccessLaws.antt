@@ -24,7 +24,7 @@ use Rattle.demands.specs.Exact.{Bytes}
 pub here_or_not : (p : ℕ) (x : Fault) → Ok p ≡ Err x → ⊥
 here_or_not p x e = let z : ◌≡◌ {A = ℕ} 0 1 = cc in omega arith
 
-pub taken_or_not : (x : Fault) → Err x ≡ (Ok tt) → ⊥
+pub taken_or_not : (x : Fault) → ◌≡◌ {A = Result Unit Fault} (Err x) (Ok tt) → ⊥
 taken_or_not x e = let z : ◌≡◌ {A = ℕ} 0 1 = cc in omega arith
 
 module _ (m : Memory) (a n : ℕ) where
@@ -54,7 +54,7 @@ module _ (m : Memory) (a : ℕ) where
   unfolding load
   load_inside z = by (access m a (bytes z))
     where
-      by : (x : Result ℕ Fault) → taken x ≡ (Ok tt) → found (storage_of m) z x ≡ Ok (number_in (found (storage_of m) z x))
+      by : (x : Result ℕ Fault) → taken x ≡ Ok tt → found (storage_of m) z x ≡ Ok (number_in (found (storage_of m) z x))
       by (Ok at) h = refl
       by (Err x) h = absurd (taken_or_not x h)
 

@@ -4,11 +4,11 @@
 -- A step fetches its opcode word and makes the reads of the word's row; what it does to memory after them is listed in Effects.
 -- The reads stand in tables, line by line and row by row in the order of the rows. Where a read's address hangs on a word that was read
 -- before it, that word is what a load finds there. Assumes nothing.
-use Rattle.manual.specs.declared.Fault.{Fault}
 use Rattle.std.specs.Prelude.{ℕ, zero, suc, ◌/◌, ◌%◌, ◌≡◌, cond, List, [], ◌∷◌, ◌++◌, eqb, ltb, get_or, Result, Option, Ok, Err, Some, None}
 use Rattle.manual.specs.declared.Cpu.{Cpu}
 use Rattle.manual.specs.declared.Size.{Size}
 use Rattle.manual.specs.declared.Size.TheVariants.{Byte, Word, Long}
+use Rattle.manual.specs.declared.Fault.{Fault}
 use Rattle.manual.specs.declared.Fault.TheVariants.{Outside as Out}
 use Rattle.manual.specs.declared.Operand.{Operand}
 use Rattle.manual.specs.declared.Operand.TheVariants.{Immediate}
@@ -34,7 +34,7 @@ wanted a n = record { address = a; count = n }
 
 -- an access of n bytes at a is inside, or it is not (Exact says by the length when)
 abbrev pub Inside : Memory → ℕ → ℕ → Type 0
-Inside m a n = taken (access m a n) ≡ (Ok tt)
+Inside m a n = taken (access m a n) ≡ Ok tt
 
 abbrev pub Outside : Memory → ℕ → ℕ → Type 0
 Outside m a n = access m a n ≡ Err Out

@@ -1,11 +1,11 @@
 -- Every call given an admitted state returns one. Document: "A state is admitted when .. Every call keeps this."
 --
 -- AdmittedMeans says what an admitted state is. Assumes nothing.
-use Rattle.manual.specs.declared.Fault.{Fault}
 use Prim.Native.Nat.{ℕ, zero, suc, ◌+◌, ◌^◌, ◌<◌}
 use Rattle.std.specs.Prelude.{◌≡◌, refl, Bool, cond, ◌&&◌, List, ltb, leb, eqb, length, Result, Option, Ok, Err, Some, None}
 use Rattle.std.proofs.Math.Bool.{true, false}
 use Rattle.std.proofs.lemmas.Bool.{false≢true}
+use Rattle.manual.specs.declared.Fault.{Fault}
 use Rattle.manual.specs.declared.Cpu.{Cpu}
 use Rattle.manual.specs.declared.Size.TheVariants.{Long}
 use Rattle.manual.specs.declared.Reply.TheVariants.{Done, NotAdmitted, Stopped, OutOfRange, Masked, WrongVersion, WrongLength}

@@ -1,5 +1,4 @@
 -- Which reads each body makes, and what it does then: line by line, those of Accesses and Effects. Assumes nothing.
-use Rattle.manual.specs.declared.Fault.{Fault}
 use Prim.Native.Nat.{ℕ, zero, suc, ◌+◌, ◌%◌}
 use Rattle.std.specs.Prelude.{◌≡◌, Bool, eqb, ltb, get_or, Result, Option, Ok, Err, Some, None}
 use Rattle.std.proofs.Math.Path.{refl}
@@ -7,6 +6,7 @@ use Rattle.std.proofs.Math.Bool.{true, false, cond}
 use mathlib.Core.List.{List, [], ◌∷◌, ◌++◌}
 use native.Mathlib.Omega.{arith}
 use Rattle.std.proofs.Common.{eqb-true}
+use Rattle.manual.specs.declared.Fault.{Fault}
 use Rattle.manual.specs.declared.Size.{Size}
 use Rattle.manual.specs.declared.Size.TheVariants.{Byte, Word, Long}
 use Rattle.manual.specs.declared.Emac.{Emac}
@@ -54,7 +54,7 @@ use Rattle.demands.specs.Accesses.{Wanted, none, word_at, long_at, words, named,
 use Rattle.demands.specs.FitLaws.{moved-long}
 use Rattle.demands.specs.Effects as eff
 use Rattle.demands.specs.Effects.{Effect, nothing, stores_many, loads_many, enters, returns, illegal_word, privileged, zero_divide_lem, violation, line-a, line_f_lem, trapped}
-use Rattle.demands.specs.PartLaws.{quiet, Does, does-nothing, does-store, does-push, does_store_many, does_load_many, does-enter, does-return, access_all, Made, illegal-does, privilege-does, cond_made, either-made, either-reads, either-quiet, load-made, missing, missing-found, unreached, reading-only, locate-made, put-made, locating-made, source-made, source-only, of_data, missing-immediate, control_missed, reaching-made, end, row, all_made, put_to-made, destination-found, destination-made, updating-made}
+use Rattle.demands.specs.PartLaws.{quiet, Does, does-nothing, does-store, does-push, does_store_many, does_load_many, does-enter, does-return, access_all, Made, illegal-does, privilege-does, cond_made, either-made, either-reads, load-made, fault_of, missing-found, unreached, reading-only, locate-made, put-made, locating-made, source-made, source-only, of_data, missing-immediate, control_missed, reaching-made, end, row, all_made, put_to-made, destination-found, destination-made, updating-made}
 
 module _ (g : List ℕ) (at sr : ℕ) (m : Memory) (op : ℕ) where
   abbrev Makes : List Wanted → Effect → Change → Type 0
@@ -308,22 +308,26 @@ module _ (g : List ℕ) (at sr : ℕ) (m : Memory) (op : ℕ) where
       rw next_word (load-made at sr m (plus at 2) Word (operand_at g m (plus at 4) op Long) nothing _ (source-only at sr m g (plus at 4) op Long nothing _ (does-nothing refl)))
 
   -- every divide, by an operand of the size z whose extension words are at pc
-  divide_does : (pc : ℕ) (z : Size) (q : Quotient) (to : Write)
+  divide_does : (pc : ℕ) (z : Size) (q : Option Quotient) (to : Quotient → Write)
       → Does at sr (eff.divide_effect g at sr m op pc z) (l4.dividing z sr (source g m pc op z) (eff.operand_value g at sr m op pc z) q to)
   unfolding done source
   divide_does pc z q to =
       either-made at sr m (eqb (eff.operand_value g at sr m op pc z) 0) [] _ nothing _ _
       (does-enter (zero_divide_lem (moved-long g (named op) z) (plus-below _ _)))
-      (either-quiet at sr m q.fits _ _ refl refl)
+      (by q)
+    where
+      by : (q : Option Quotient) → Does at sr nothing (l4.with_quotient z sr (source g m pc op z) q to)
+      by (Some q) = does-nothing refl
+      by None = does-nothing refl
 
   divide_made : Makes (word_at (plus at 2) ++ operand_at g m (plus at 4) op Long) (eff.divide_effect g at sr m op (plus at 4) Long) (l4.div_l g at sr m op)
   unfolding l4.div_l
   divide_made =
       let w : ℕ = number_at m (plus at 2) Word in
-      let q : Quotient = l4.divided w (data_of g (bits 14 12 w)) (eff.operand_value g at sr m op (plus at 4) Long) in
+      let q : Option Quotient = l4.divided w (data_of g (bits 14 12 w)) (eff.operand_value g at sr m op (plus at 4) Long) in
       rw next_word
       (load-made at sr m (plus at 2) Word (operand_at g m (plus at 4) op Long) _ _
-      (source-only at sr m g (plus at 4) op Long _ _ (divide_does (plus at 4) Long q (l4.quotient_to w q))))
+      (source-only at sr m g (plus at 4) op Long _ _ (divide_does (plus at 4) Long q (l4.quotient_to w))))
 
   pub line4-made : (other n : ℕ) → Makes (acc.reads4 g at m op n) (eff.effects4 g at sr m op n) (l4.line4 n g at sr other m op)
   unfolding acc.reads4 eff.effects4 l4.line4 l4.nop l4.halt l4.trap l4.move_from_ccr l4.swap l4.extb l4.ext_w l4.ext_l l4.sats l4.neg l4.negx l4.not jump done acting enter
@@ -431,16 +435,16 @@ module _ (g : List ℕ) (at sr : ℕ) (m : Memory) (op : ℕ) where
   abbrev branch_words : List Wanted
   branch_words = words (plus at 2) (l6.displacement_bytes (low_byte op))
 
-  missing-displacement : (pc low : ℕ) → missing (l6.displacement m pc low) ≡ access_all m (words pc (l6.displacement_bytes low))
+  missing-displacement : (pc low : ℕ) → fault_of (l6.displacement m pc low) ≡ access_all m (words pc (l6.displacement_bytes low))
   unfolding l6.displacement l6.displacement_bytes load
   missing-displacement pc low = by (eqb low 0) (eqb low 255)
     where
-      extended : (x : Result ℕ Fault) → missing (l6.extended (found (storage_of m) Word x)) ≡ first_fault x (Ok tt)
+      extended : (x : Result ℕ Fault) → fault_of (l6.extended (found (storage_of m) Word x)) ≡ first_fault x (Ok tt)
       extended (Ok at) = refl
       extended (Err x) = refl
 
       by : (a b : Bool)
-          → missing (cond a (l6.extended (found (storage_of m) Word (access m pc 2))) (cond b (found (storage_of m) Long (access m pc 4)) (Ok (sign_extended Byte low))))
+          → fault_of (cond a (l6.extended (found (storage_of m) Word (access m pc 2))) (cond b (found (storage_of m) Long (access m pc 4)) (Ok (sign_extended Byte low))))
           ≡ access_all m (words pc (cond a 2 (cond b 4 0)))
       by true b = extended (access m pc 2)
       by false true = missing-found m Long (access m pc 4)
@@ -540,7 +544,7 @@ module _ (g : List ℕ) (at sr : ℕ) (m : Memory) (op : ℕ) where
   divide_words : (signs : Bool) → Makes (from Word) (eff.divide_effect g at sr m op (plus at 2) Word) (l8.div_w signs g at sr m op)
   unfolding l8.div_w
   divide_words signs =
-      let q : Quotient = l8.word_divided signs (data_of g (upper op)) (eff.operand_value g at sr m op (plus at 2) Word) in
+      let q : Option Quotient = l8.word_divided signs (data_of g (upper op)) (eff.operand_value g at sr m op (plus at 2) Word) in
       source-only at sr m g (plus at 2) op Word _ _ (divide_does (plus at 2) Word q _)
 
   pub line8-made : (n : ℕ) → Makes (acc.reads8 g at m op n) (eff.effects8 g at sr m op n) (l8.line8 n g at sr m op)

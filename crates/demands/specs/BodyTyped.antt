@@ -1,13 +1,14 @@
 -- Every instruction's numbers are longs, line by line, where the registers and the word's address are, MASK and MACSR are, and memory
 -- holds bytes. Assumes nothing.
-use Rattle.manual.specs.declared.Fault.{Fault}
-use Rattle.manual.specs.declared.ControlRegister.{ControlRegister}
 use Prim.Native.Nat.{ℕ, ◌+◌, ◌*◌, ◌%◌, ◌<◌}
-use Rattle.std.specs.Prelude.{Bool, cond, List, eqb, ltb, get_or, Option, Ok, Err, Some, None}
+use Rattle.std.specs.Prelude.{Bool, cond, List, eqb, ltb, get_or, Result, Option, Ok, Err, Some, None, IfSome}
+use Rattle.std.proofs.lemmas.Option.{IfSome_then}
 use Rattle.std.proofs.Math.Bool.{true, false}
 use native.Mathlib.Omega.{arith}
 use Rattle.std.specs.Int.Bits.{and_le_l}
 use Rattle.std.specs.Int.Count.{leading_le}
+use Rattle.manual.specs.declared.Fault.{Fault}
+use Rattle.manual.specs.declared.ControlRegister.{ControlRegister}
 use Rattle.manual.specs.declared.Size.{Size}
 use Rattle.manual.specs.declared.Size.TheVariants.{Byte, Word, Long}
 use Rattle.manual.specs.declared.Emac.{Emac}
@@ -390,7 +391,7 @@ module _ (g : List ℕ) (all : Longs g) (at : ℕ) (here : IsLong at) (sr : ℕ)
       word_and_long_lem (l4.mul_l_by g sr)
       (λ w v h. source_to_data (plus (plus at 2) 2) Long _ _ _ (either-long (bit_of 11 w) _ _ (fit.signed-long_product _ v) (fit.long-product _ v)))
 
-  divided-fits : (w d v : ℕ) → IsLong d → QuotientFits (l4.divided w d v)
+  divided-fits : (w d v : ℕ) → IsLong d → IfSome (l4.divided w d v) QuotientFits
   unfolding l4.divided
   divided-fits w d v h = fit.either-quotient (bit_of 11 w) _ _ (fit.signed_quotient-long d v) (fit.quotient-long d v h)
 
@@ -403,15 +404,18 @@ module _ (g : List ℕ) (all : Longs g) (at : ℕ) (here : IsLong at) (sr : ℕ)
       by false = h.remainder_fits
 
   -- every divide, by an operand of the size z whose extension words are at pc
-  dividing-fits : (pc : ℕ) (z : Size) (v : ℕ) (q : Quotient) (to : Write) → IsLong to.value → FitsLong (l4.dividing z sr (source g m pc op z) v q to)
-  dividing-fits pc z v q to h =
-      either-fits (eqb v 0) _ _ (fit.enter_after-fits _ sr 5 _ (next-long pc z) (moved-long pc z))
-      (either-fits q.fits _ _ (done-fits _ _ _ to (next-long pc z) (moved-long pc z) h) (source-alone pc z _))
+  dividing-fits : (pc : ℕ) (z : Size) (v : ℕ) (q : Option Quotient) (f : Quotient → Write) → IfSome q (λ r. IsLong (f r).value)
+      → FitsLong (l4.dividing z sr (source g m pc op z) v q f)
+  dividing-fits pc z v q f h = either-fits (eqb v 0) _ _ (fit.enter_after-fits _ sr 5 _ (next-long pc z) (moved-long pc z)) (by q h)
+    where
+      by : (q : Option Quotient) → IfSome q (λ r. IsLong (f r).value) → FitsLong (l4.with_quotient z sr (source g m pc op z) q f)
+      by (Some r) h = done-fits _ _ _ (f r) (next-long pc z) (moved-long pc z) h
+      by None h = source-alone pc z _
 
   divide_by : (pc w v : ℕ) → FitsLong (l4.div_l_by g sr w (source g m pc op Long) v)
   divide_by pc w v =
-      let q : Quotient = l4.divided w (data_of g (bits 14 12 w)) v in
-      dividing-fits pc Long v q _ (quotient-to w q (divided-fits w _ v (fit.data_long g all _)))
+      let q : Option Quotient = l4.divided w (data_of g (bits 14 12 w)) v in
+      dividing-fits pc Long v q (l4.quotient_to w) (IfSome_then q (divided-fits w _ v (fit.data_long g all _)) (quotient-to w))
 
   divide_fits : FitsLong (l4.div_l g at sr m op)
   unfolding l4.div_l
@@ -625,15 +629,16 @@ module _ (g : List ℕ) (all : Longs g) (at : ℕ) (here : IsLong at) (sr : ℕ)
   line_c-fits n =
       row_fits (multiply_words false & multiply_words true & logic_to_data_lem And & logic-to_place And & end) (place_in (first_row 0xC) n)
 
-  both_words : (q : Quotient) → IsLong (write_data (upper op) (q.remainder % 0x1_0000 * 0x1_0000 + q.quotient % 0x1_0000)).value
+  both_words : (q : Option Quotient) → IfSome q (λ r. IsLong (write_data (upper op) (r.remainder % 0x1_0000 * 0x1_0000 + r.quotient % 0x1_0000)).value)
   unfolding write_data
-  both_words q = fit.two_words_long q.remainder q.quotient
+  both_words (Some r) = fit.two_words_long r.remainder r.quotient
+  both_words None = tt
 
   divide_words : (signs : Bool) → FitsLong (l8.div_w signs g at sr m op)
   unfolding l8.div_w
   divide_words signs =
       source_fits (plus at 2) Word _
-      (λ v h. let q : Quotient = l8.word_divided signs (data_of g (upper op)) v in dividing-fits (plus at 2) Word v q _ (both_words q))
+      (λ v h. let q : Option Quotient = l8.word_divided signs (data_of g (upper op)) v in dividing-fits (plus at 2) Word v q _ (both_words q))
 
   pub line8-fits : (n : ℕ) → FitsLong (l8.line8 n g at sr m op)
   unfolding l8.line8

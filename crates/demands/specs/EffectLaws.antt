@@ -1,12 +1,12 @@
 -- What a change that has an effect does where it is performed: its accesses are those of the effect, and done, its vector and its stores
 -- are the effect's. Assumes nothing.
-use Rattle.manual.specs.declared.Fault.{Fault}
 use Prim.Native.Nat.{ℕ, zero, suc, ◌+◌, ◌/◌, ◌%◌, ◌^◌, ◌<◌}
 use Rattle.std.specs.Prelude.{◌≡◌, refl, Bool, true, false, cond, eqb, length, Result, Ok, Err, None}
 use Rattle.std.proofs.Common.{sym, ◌∙◌, arith}
 use Rattle.std.proofs.Math.Path.{ap, subst}
 use Rattle.std.proofs.lemmas.Bool.{false≢true}
 use mathlib.Core.List.{List, ◌∷◌, ◌++◌, append-nil}
+use Rattle.manual.specs.declared.Fault.{Fault}
 use Rattle.manual.specs.declared.Cpu.{Cpu}
 use Rattle.manual.specs.declared.Size.{Size}
 use Rattle.manual.specs.declared.Size.TheVariants.{Long}
@@ -99,7 +99,7 @@ quiet-act given s m (Refuse n) h = absurd (false≢true h)
 
 -- ---- what is done where memory took it
 
-was_taken : (given : Cpu) (m : Memory) (x : Result Unit Fault) (o : Outcome) → numbered (taking given m x o) ≡ 0 → x ≡ (Ok tt)
+was_taken : (given : Cpu) (m : Memory) (x : Result Unit Fault) (o : Outcome) → numbered (taking given m x o) ≡ 0 → x ≡ Ok tt
 unfolding refusal
 was_taken given m (Ok tt) o h = refl
 was_taken given m (Err f) o h = absurd (fault_number f h)
@@ -110,11 +110,11 @@ taken_so given m x o h = rw (was_taken given m x o h)
 -- ---- stores
 
 -- a store that memory takes lies at its address
-taken-stored : (m : Memory) (a : ℕ) (z : Size) (v : ℕ) → storing m a z ≡ (Ok tt) → stored m a z v ≡ store_at (storage_of m) a (bytes z) v
+taken-stored : (m : Memory) (a : ℕ) (z : Size) (v : ℕ) → storing m a z ≡ Ok tt → stored m a z v ≡ store_at (storage_of m) a (bytes z) v
 unfolding storing stored
 taken-stored m a z v = by (access m a (bytes z)) refl
   where
-    by : (x : Result ℕ Fault) → access m a (bytes z) ≡ x → taken x ≡ (Ok tt) → stored_in (storage_of m) z v x ≡ store_at (storage_of m) a (bytes z) v
+    by : (x : Result ℕ Fault) → access m a (bytes z) ≡ x → taken x ≡ Ok tt → stored_in (storage_of m) z v x ≡ store_at (storage_of m) a (bytes z) v
     by (Ok p) i h = ap (λ (q : ℕ). store_at (storage_of m) q (bytes z) v) (here-is m a (bytes z) p i).0
     by (Err x) i h = absurd (taken_or_not x h)
 
@@ -146,11 +146,11 @@ many-same zero m m' regs a e = refl
 many-same (suc left) m m' regs a e =
     rw (access-same m m' a 4 e, many-same left m m' (regs / 2) (plus a 4) e, many-same left m m' (regs / 2) a e)
 
-pub first_taken : (x : Result ℕ Fault) (rest : Result Unit Fault) → first_fault x rest ≡ (Ok tt) → (taken x ≡ (Ok tt)) × (rest ≡ (Ok tt))
+pub first_taken : (x : Result ℕ Fault) (rest : Result Unit Fault) → first_fault x rest ≡ Ok tt → (taken x ≡ Ok tt) × (rest ≡ Ok tt)
 first_taken (Ok p) rest h = (refl, h)
 first_taken (Err x) rest h = absurd (taken_or_not x h)
 
-many-stored : (left : ℕ) (g : List ℕ) (n regs a : ℕ) (m : Memory) → access_many left m regs a ≡ (Ok tt)
+many-stored : (left : ℕ) (g : List ℕ) (n regs a : ℕ) (m : Memory) → access_many left m regs a ≡ Ok tt
     → stored_many left g n regs a m ≡ stored_all (storage_of m) (many_puts left g n regs a)
 unfolding access_many stored_many many_puts
 many-stored zero g n regs a m h = refl
@@ -167,15 +167,15 @@ many-stored (suc left) g n regs a m h =
     rest = many_puts left g (n + 1) (regs / 2) (plus a 4)
 
     Rest : Memory → Type 0
-    Rest m = access_many left m (regs / 2) (plus a 4) ≡ (Ok tt) → stored_many left g (n + 1) (regs / 2) (plus a 4) m ≡ stored_all (storage_of m) rest
+    Rest m = access_many left m (regs / 2) (plus a 4) ≡ Ok tt → stored_many left g (n + 1) (regs / 2) (plus a 4) m ≡ stored_all (storage_of m) rest
 
     by : (b : Bool) → ((m : Memory) → Rest m)
-        → (access_many left m (regs / 2) a ≡ (Ok tt) → stored_many left g (n + 1) (regs / 2) a m ≡ stored_all (storage_of m) (many_puts left g (n + 1) (regs / 2) a))
-        → cond b (first_fault (access m a 4) (access_many left m (regs / 2) (plus a 4))) (access_many left m (regs / 2) a) ≡ (Ok tt)
+        → (access_many left m (regs / 2) a ≡ Ok tt → stored_many left g (n + 1) (regs / 2) a m ≡ stored_all (storage_of m) (many_puts left g (n + 1) (regs / 2) a))
+        → cond b (first_fault (access m a 4) (access_many left m (regs / 2) (plus a 4))) (access_many left m (regs / 2) a) ≡ Ok tt
         → cond b (stored_many left g (n + 1) (regs / 2) (plus a 4) m') (stored_many left g (n + 1) (regs / 2) a m)
         ≡ stored_all (storage_of m) (cond b (put a 4 v ∷ rest) (many_puts left g (n + 1) (regs / 2) a))
     by true p q h =
-        let both : (taken (access m a 4) ≡ (Ok tt)) × (access_many left m (regs / 2) (plus a 4) ≡ (Ok tt)) = first_taken (access m a 4) _ h in
+        let both : (taken (access m a 4) ≡ Ok tt) × (access_many left m (regs / 2) (plus a 4) ≡ Ok tt) = first_taken (access m a 4) _ h in
         p m' (many-same left m m' (regs / 2) (plus a 4) (length_stored m a Long v) ∙ both.1)
         ∙ ap (λ (b : Storage). stored_all b rest) (taken-stored m a Long v (storing-is m a Long ∙ both.0))
     by false p q h = q h

@@ -1,11 +1,11 @@
 -- When an entry, a return, a push and a pop give each reply. Assumes nothing.
-use Rattle.manual.specs.declared.Fault.{Fault}
 use Prim.Native.Nat.{ℕ, ◌/◌, ◌%◌, ◌≤◌, ◌<◌}
 use Rattle.std.specs.Prelude.{◌≡◌, Bool, cond, ◌↔◌, ltb, leb, Result, Option, Ok, Err, Some, None}
 use Rattle.std.proofs.Math.Path.{refl}
 use Rattle.std.proofs.Common.{sym, ◌∙◌, inl, inr, arith}
 use Rattle.std.proofs.Math.Bool.{true, false}
 use mathlib.Core.List.{List, [], ◌∷◌}
+use Rattle.manual.specs.declared.Fault.{Fault}
 use Rattle.manual.specs.declared.Cpu.{Cpu}
 use Rattle.manual.specs.declared.Size.TheVariants.{Long}
 use Rattle.manual.specs.declared.Reply.TheVariants.{OutOfRange, Masked}

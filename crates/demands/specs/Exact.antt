@@ -12,7 +12,7 @@
 --   9  block or file: wrong length
 --
 -- Order: 9 when under five bytes, 8, 9, then 1, 2, 6, 7, 3, and then in the order the step comes to them. Assumes nothing.
-use Rattle.std.specs.Prelude.{ℕ, ◌+◌, ◌-◌, ◌*◌, ◌/◌, ◌%◌, ◌^◌, ◌≤◌, ◌<◌, ◌≡◌, true, false, List, [], ◌∷◌, ◌↔◌, ◌⊎◌, length, get_or, Option, Some, None}
+use Rattle.std.specs.Prelude.{ℕ, ◌+◌, ◌-◌, ◌*◌, ◌/◌, ◌%◌, ◌^◌, ◌≤◌, ◌<◌, ◌≡◌, true, false, List, [], ◌∷◌, ◌↔◌, ◌⊎◌, length, get_or, Option, Some, None, IfSome}
 use Rattle.std.specs.Int.Bits.{bit_and}
 use Rattle.manual.specs.declared.Cpu.{Cpu}
 use Rattle.manual.specs.declared.Size.TheVariants.{Word}
@@ -74,8 +74,7 @@ pub record Meanings : Type 0 where
 
 -- the level of an entry: the mask is kept, or it is set to a level, which is at most 7
 abbrev pub LevelBelow8 : Option ℕ → Type 0
-LevelBelow8 None = Unit {0}
-LevelBelow8 (Some level) = level < 8
+LevelBelow8 level = IfSome level (λ n. n < 8)
 
 -- the mask, SR bits 10 to 8, lets a level through: level 7 always, a lower one above the mask
 abbrev pub LetThrough : ℕ → ℕ → Type 0

@@ -1,7 +1,7 @@
 -- The numbers that the parts of an instruction make of longs and of bytes are longs: sums, parts, products, quotients and shifts, what is
 -- read, where an operand lies, and what a change holds. Assumes nothing.
-use Rattle.std.specs.Prelude.{ℕ, zero, suc, ◌+◌, ◌*◌, ◌%◌, ◌^◌, ◌≤◌, ◌<◌, Bool, true, false, cond, ◌&&◌, List, [], ◌∷◌, eqb, ltb, get_or, set, ℤ, ◌*ℤ◌}
-use Rattle.std.proofs.Common.{mod-lt, div-le_self, mul-le-mul, Result, Option, Ok, Err, Some, None}
+use Rattle.std.specs.Prelude.{ℕ, zero, suc, ◌+◌, ◌*◌, ◌%◌, ◌^◌, ◌≤◌, ◌<◌, Bool, true, false, cond, ◌&&◌, List, [], ◌∷◌, eqb, ltb, get_or, set, ℤ, ◌*ℤ◌, Result, Option, Ok, Err, Some, None, IfOk, IfSome}
+use Rattle.std.proofs.Common.{mod-lt, div-le_self, mul-le-mul}
 use Rattle.std.proofs.Math.Nat.{mod-le}
 use native.Mathlib.Omega.{arith}
 use Rattle.std.specs.Int.Bits.{and_lt}
@@ -31,7 +31,7 @@ use Rattle.manual.specs.Flags.{added, subtracted, sum_or_difference}
 use Rattle.manual.specs.Memory.{Memory, storage_of, access, found, load}
 use Rattle.manual.specs.Address.{indexed, locate, moved, fetch, value, reached, control, ◌then◌}
 use Rattle.manual.specs.Multiply.{long_product, signed_long_product, word_product, signed_word_product}
-use Rattle.manual.specs.Divide.{no_quotient, quotient, signed_quotient}
+use Rattle.manual.specs.Divide.{quotient, signed_quotient}
 use Rattle.manual.specs.Shift.{shifted_left, shifted_right, signed_shifted_right}
 use Rattle.manual.specs.Emac.{value_of, nearest, rounded, saturated, acc_of, read_acc, read_ext}
 use Rattle.manual.specs.Change.{done, store, acting, enter_after, enter, illegal, privilege, refuse, refused, jump, push, reading, reaching, locating, put}
@@ -78,13 +78,11 @@ pub record FitsLong (c : Change) : Type 0 where
 
 -- a number is below k, if it was read
 abbrev pub GotBelow : ℕ → Result ℕ Fault → Type 0
-GotBelow k (Ok v) = v < k
-GotBelow k (Err x) = Unit {0}
+GotBelow k got = IfOk got (λ v. v < k)
 
 -- an address is a long, if it was reached
 abbrev pub ReachedFits : Option (Result ℕ Fault) → Type 0
-ReachedFits (Some got) = GotBelow (2 ^ 32) got
-ReachedFits None = Unit {0}
+ReachedFits got = IfSome got (GotBelow (2 ^ 32))
 
 -- ---- numbers
 
@@ -156,27 +154,24 @@ pub record QuotientFits (q : Quotient) : Type 0 where
   pub quotient_fits : IsLong q.quotient
   pub remainder_fits : IsLong q.remainder
 
-pub either-quotient : (b : Bool) (p q : Quotient) → QuotientFits p → QuotientFits q → QuotientFits (cond b p q)
-either-quotient b p q h k = either QuotientFits b p q h k
+pub either-quotient : (b : Bool) (p q : Option Quotient) → IfSome p QuotientFits → IfSome q QuotientFits → IfSome (cond b p q) QuotientFits
+either-quotient b p q h k = either (λ r. IfSome r QuotientFits) b p q h k
 
-none-fits : QuotientFits no_quotient
-none-fits = record { quotient_fits = omega arith; remainder_fits = omega arith }
-
-pub quotient-long : (a b : ℕ) → IsLong a → QuotientFits (quotient a b)
+pub quotient-long : (a b : ℕ) → IsLong a → IfSome (quotient a b) QuotientFits
 unfolding quotient
 quotient-long a b h =
-    either-quotient (eqb b 0) _ _ none-fits
+    either-quotient (eqb b 0) _ _ tt
     (record { quotient_fits = omega (arith, div-le_self a b); remainder_fits = omega (arith, mod-le a b) })
 
-pub signed_quotient-long : (a b : ℕ) → QuotientFits (signed_quotient a b)
+pub signed_quotient-long : (a b : ℕ) → IfSome (signed_quotient a b) QuotientFits
 unfolding signed_quotient
 signed_quotient-long a b =
     let q : ℤ = quot_z (signed Long a) (signed Long b) in
     let r : ℤ = rem_z (signed Long a) (signed Long b) in
-    either-quotient (eqb b 0) _ _ none-fits
+    either-quotient (eqb b 0) _ _ tt
     (either-quotient (fits Long q) _ _
     (record { quotient_fits = mod_z-below q (2 ^ 32) (omega arith); remainder_fits = mod_z-below r (2 ^ 32) (omega arith) })
-    none-fits)
+    tt)
 
 -- one word above another
 pub two_words_long : (high low : ℕ) → IsLong (high % 0x1_0000 * 0x1_0000 + low % 0x1_0000)
@@ -358,7 +353,7 @@ module _ (m : Memory) (bytes-in : Bytes (storage_of m)) where
   pub load_fits : (a : ℕ) (z : Size) (f : ℕ → Change) → ((v : ℕ) → v < numbers z → FitsLong (f v)) → FitsLong (reading (load m a z) f)
   load_fits a z f h = reading-fits (numbers z) (load m a z) f (load_below a z) h
 
-  then_fits : (k : ℕ) (got : Result ℕ Fault) (f : ℕ → Result Place Fault) → GotBelow k got → ((v : ℕ) → v < k → ReachedFits (reached (f v))) → ReachedFits (reached (got then f))
+  then_fits : (k : ℕ) (got : Result ℕ Fault) (f : ℕ → Place) → GotBelow k got → ((v : ℕ) → v < k → ReachedFits (reached (Ok (f v)))) → ReachedFits (reached (got then f))
   then_fits k (Ok v) f h all = all v h
   then_fits k (Err x) f h all = tt
 
@@ -378,7 +373,7 @@ module _ (m : Memory) (bytes-in : Bytes (storage_of m)) where
     unfolding value
     value-below pc o z = fetch-below (locate g m pc o z) z
 
-    word_fits : (pc : ℕ) (f : ℕ → Result Place Fault) → ((v : ℕ) → ReachedFits (reached (f v))) → ReachedFits (reached (load m pc Word then f))
+    word_fits : (pc : ℕ) (f : ℕ → Place) → ((v : ℕ) → ReachedFits (reached (Ok (f v)))) → ReachedFits (reached (load m pc Word then f))
     word_fits pc f h = then_fits (numbers Word) (load m pc Word) f (load_below pc Word) (λ v l. h v)
 
     -- a mode that has an address has one of 32 bits

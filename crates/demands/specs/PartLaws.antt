@@ -1,7 +1,8 @@
 -- Which accesses the parts of an instruction make, and what they do then: at the first fault of the accesses an instruction is refused,
 -- and where there is none it has its effect. Assumes nothing.
-use Rattle.std.specs.Prelude.{ℕ, zero, suc, ◌/◌, ◌%◌, ◌≡◌, Bool, true, false, cond, ◌↔◌, get_or, Option, Ok, Err, Some, None}
+use Rattle.std.specs.Prelude.{ℕ, zero, suc, ◌/◌, ◌%◌, ◌≡◌, Bool, true, false, cond, ◌↔◌, get_or, Result, Option, Ok, Err, Some, None}
 use Rattle.std.proofs.Math.Path.{refl}
+use Rattle.std.specs.Result.{result_and}
 use Rattle.std.proofs.Common.{sym, ◌∙◌, arith}
 use mathlib.Core.List.{List, [], ◌∷◌, ◌++◌}
 use Rattle.manual.specs.declared.Size.{Size}
@@ -62,7 +63,7 @@ pub data Does (at sr : ℕ) : Effect → Change → Type 0 where
 
 -- all the accesses of a list: the first fault, if any
 abbrev pub access_all : Memory → List Wanted → Result Unit Fault
-access_all m [] = (Ok tt)
+access_all m [] = Ok tt
 access_all m (x ∷ l) = first_fault (access m x.address x.count) (access_all m l)
 
 -- the number that a fault is refused with; n where there is none
@@ -91,7 +92,7 @@ some_outside m (x ∷ l) = by (access m x.address x.count) refl (some_outside m 
 pub past-inside : (m : Memory) (a n : ℕ) (l : List Wanted) → Inside m a n → access_all m (wanted a n ∷ l) ≡ access_all m l
 past-inside m a n l = by (access m a n)
   where
-    by : (x : Result ℕ Fault) → taken x ≡ (Ok tt) → first_fault x (access_all m l) ≡ access_all m l
+    by : (x : Result ℕ Fault) → taken x ≡ Ok tt → first_fault x (access_all m l) ≡ access_all m l
     by (Ok at) h = refl
     by (Err x) h = absurd (taken_or_not x h)
 
@@ -106,22 +107,15 @@ Made at sr m l e c = Follows at sr (access_all m l) e c
 
 -- ---- the parts that bodies are made of
 
--- the fault of a number that was not read, of a place that was not found, of an address that was not reached
-abbrev pub missing : Result ℕ Fault → Result Unit Fault
-missing (Ok v) = (Ok tt)
-missing (Err x) = Err x
+-- the fault of a number that was not read, of a place that was not found
+abbrev pub fault_of : {T : Type 0} → Result T Fault → Result Unit Fault
+fault_of (Ok v) = Ok tt
+fault_of (Err x) = Err x
 
-abbrev pub nowhere : Result Place Fault → Result Unit Fault
-nowhere (Ok (D r)) = (Ok tt)
-nowhere (Ok (A r)) = (Ok tt)
-nowhere (Ok (M a)) = (Ok tt)
-nowhere (Ok (I v)) = (Ok tt)
-nowhere (Err x) = Err x
-
+-- and of an address that was not reached
 abbrev pub unreached : Option (Result ℕ Fault) → Result Unit Fault
-unreached (Some (Ok a)) = (Ok tt)
-unreached (Some (Err x)) = Err x
-unreached None = (Ok tt)
+unreached (Some got) = fault_of got
+unreached None = Ok tt
 
 pub illegal-does : (at sr : ℕ) → Does at sr (illegal_word at) (illegal at sr)
 unfolding illegal enter
@@ -131,54 +125,49 @@ pub privilege-does : (at sr : ℕ) → Does at sr (enters no_write 8 at) (privil
 unfolding privilege enter no_write
 privilege-does at sr = does-enter (violation {w = no_write} (omega arith))
 
--- the first fault of two
-abbrev pub both : Result Unit Fault → Result Unit Fault → Result Unit Fault
-both (Ok tt) y = y
-both (Err x) y = Err x
-
 -- ---- the accesses of the parts
 
 module _ (m : Memory) where
-  -- one list and then another
-  pub all_both : (l k : List Wanted) → access_all m (l ++ k) ≡ both (access_all m l) (access_all m k)
+  -- one list and then another: the first fault of both
+  pub all_both : (l k : List Wanted) → access_all m (l ++ k) ≡ result_and (access_all m l) (access_all m k)
   all_both [] k = refl
   all_both (x ∷ l) k = by (access m x.address x.count) (all_both l k)
     where
-      by : (y : Result ℕ Fault) → access_all m (l ++ k) ≡ both (access_all m l) (access_all m k)
-          → first_fault y (access_all m (l ++ k)) ≡ both (first_fault y (access_all m l)) (access_all m k)
+      by : (y : Result ℕ Fault) → access_all m (l ++ k) ≡ result_and (access_all m l) (access_all m k)
+          → first_fault y (access_all m (l ++ k)) ≡ result_and (first_fault y (access_all m l)) (access_all m k)
       by (Ok at) e = e
       by (Err x) e = refl
 
-  pub missing-found : (z : Size) (x : Result ℕ Fault) → missing (found (storage_of m) z x) ≡ first_fault x (Ok tt)
+  pub missing-found : (z : Size) (x : Result ℕ Fault) → fault_of (found (storage_of m) z x) ≡ first_fault x (Ok tt)
   missing-found z (Ok at) = refl
   missing-found z (Err x) = refl
 
-  then_place : (z : Size) (x : Result ℕ Fault) (f : ℕ → Result Place Fault) → ((v : ℕ) → nowhere (f v) ≡ (Ok tt)) → nowhere (found (storage_of m) z x then f) ≡ first_fault x (Ok tt)
-  then_place z (Ok at) f h = h _
-  then_place z (Err x) f h = refl
+  then_place : (z : Size) (x : Result ℕ Fault) (f : ℕ → Place) → fault_of (found (storage_of m) z x then f) ≡ first_fault x (Ok tt)
+  then_place z (Ok at) f = refl
+  then_place z (Err x) f = refl
 
   module _ (g : List ℕ) (pc : ℕ) where
-    pub locate-made : (o : Operand) (z : Size) → nowhere (locate g m pc o z) ≡ access_all m (words pc (extension o z))
+    pub locate-made : (o : Operand) (z : Size) → fault_of (locate g m pc o z) ≡ access_all m (words pc (extension o z))
     unfolding locate immediate extension load
     locate-made (Data r) z = refl
     locate-made (Address r) z = refl
     locate-made (Indirect r) z = refl
     locate-made (PostIncrement r) z = refl
     locate-made (PreDecrement r) z = refl
-    locate-made (Displaced r) z = then_place Word (access m pc 2) _ (λ v. refl)
-    locate-made (Indexed r) z = then_place Word (access m pc 2) _ (λ v. refl)
-    locate-made AbsoluteWord z = then_place Word (access m pc 2) _ (λ v. refl)
-    locate-made AbsoluteLong z = then_place Long (access m pc 4) _ (λ v. refl)
-    locate-made PcDisplaced z = then_place Word (access m pc 2) _ (λ v. refl)
-    locate-made PcIndexed z = then_place Word (access m pc 2) _ (λ v. refl)
-    locate-made Immediate Byte = then_place Word (access m pc 2) _ (λ v. refl)
-    locate-made Immediate Word = then_place Word (access m pc 2) _ (λ v. refl)
-    locate-made Immediate Long = then_place Long (access m pc 4) _ (λ v. refl)
+    locate-made (Displaced r) z = then_place Word (access m pc 2) _
+    locate-made (Indexed r) z = then_place Word (access m pc 2) _
+    locate-made AbsoluteWord z = then_place Word (access m pc 2) _
+    locate-made AbsoluteLong z = then_place Long (access m pc 4) _
+    locate-made PcDisplaced z = then_place Word (access m pc 2) _
+    locate-made PcIndexed z = then_place Word (access m pc 2) _
+    locate-made Immediate Byte = then_place Word (access m pc 2) _
+    locate-made Immediate Word = then_place Word (access m pc 2) _
+    locate-made Immediate Long = then_place Long (access m pc 4) _
     locate-made Zero z = refl
 
   -- what stands at a place that was looked for
-  missing_at : (g : List ℕ) (z : Size) (l : List Wanted) (place : Result Place Fault) → nowhere place ≡ access_all m l
-      → missing (fetch g m place z) ≡ access_all m (l ++ own place z)
+  missing_at : (g : List ℕ) (z : Size) (l : List Wanted) (place : Result Place Fault) → fault_of place ≡ access_all m l
+      → fault_of (fetch g m place z) ≡ access_all m (l ++ own place z)
   unfolding fetch load
   missing_at g z l (Ok (D r)) e = rw (all_both l [], ← e)
   missing_at g z l (Ok (A r)) e = rw (all_both l [], ← e)
@@ -188,11 +177,11 @@ module _ (m : Memory) where
 
   -- the operand that a word names: it is read, or written
   module _ (g : List ℕ) (pc op : ℕ) (z : Size) where
-    missing-operand : missing (value g m pc (named op) z) ≡ access_all m (operand_at g m pc op z)
+    missing-operand : fault_of (value g m pc (named op) z) ≡ access_all m (operand_at g m pc op z)
     unfolding value
     missing-operand = missing_at g z (extension_of pc op z) (locate g m pc (named op) z) (locate-made g pc (named op) z)
 
-    pub destination-found : nowhere (destination g m pc op z).place ≡ access_all m (extension_of pc op z)
+    pub destination-found : fault_of (destination g m pc op z).place ≡ access_all m (extension_of pc op z)
     unfolding destination_of
     destination-found = locate-made g pc (named op) z
 
@@ -203,19 +192,19 @@ module _ (m : Memory) where
 
   -- the words of an immediate are all that is read of it
   module _ (g : List ℕ) (pc : ℕ) where
-    found_number : (w : Size) (x : Result ℕ Fault) (f : ℕ → ℕ) (z : Size) → missing (fetch g m (found (storage_of m) w x then λ v. I (f v)) z) ≡ first_fault x (Ok tt)
+    found_number : (w : Size) (x : Result ℕ Fault) (f : ℕ → ℕ) (z : Size) → fault_of (fetch g m (found (storage_of m) w x then λ v. I (f v)) z) ≡ first_fault x (Ok tt)
     unfolding fetch
     found_number w (Ok at) f z = refl
     found_number w (Err x) f z = refl
 
-    pub missing-immediate : (z : Size) → missing (value g m pc Immediate z) ≡ access_all m (words pc (extension Immediate z))
+    pub missing-immediate : (z : Size) → fault_of (value g m pc Immediate z) ≡ access_all m (words pc (extension Immediate z))
     unfolding value locate immediate extension load
     missing-immediate Byte = found_number Word (access m pc 2) _ Byte
     missing-immediate Word = found_number Word (access m pc 2) _ Word
     missing-immediate Long = found_number Long (access m pc 4) _ Long
 
   -- a control mode
-  reached_missed : (l : List Wanted) (place : Result Place Fault) → nowhere place ≡ access_all m l → unreached (reached place) ≡ access_all m (reached_by (reached place) l)
+  reached_missed : (l : List Wanted) (place : Result Place Fault) → fault_of place ≡ access_all m l → unreached (reached place) ≡ access_all m (reached_by (reached place) l)
   reached_missed l (Ok (D r)) e = refl
   reached_missed l (Ok (A r)) e = refl
   reached_missed l (Ok (M a)) e = e
@@ -279,18 +268,18 @@ module _ (at sr : ℕ) (m : Memory) where
       by (Ok p) h = h
       by (Err x) h = refl
 
-  pub reading-made : (l k : List Wanted) (e : Effect) (got : Result ℕ Fault) (f : ℕ → Change) → missing got ≡ access_all m l → Makes k e (f (number_in got)) → Makes (l ++ k) e (reading got f)
+  pub reading-made : (l k : List Wanted) (e : Effect) (got : Result ℕ Fault) (f : ℕ → Change) → fault_of got ≡ access_all m l → Makes k e (f (number_in got)) → Makes (l ++ k) e (reading got f)
   reading-made l k e (Ok v) f p h = rw (all_both m l k, ← p) h
   reading-made l k e (Err x) f p h = rw (all_both m l k, ← p)
 
   -- and no more than that
-  pub reading-only : (l : List Wanted) (e : Effect) (got : Result ℕ Fault) (f : ℕ → Change) → missing got ≡ access_all m l → Does at sr e (f (number_in got)) → Makes l e (reading got f)
+  pub reading-only : (l : List Wanted) (e : Effect) (got : Result ℕ Fault) (f : ℕ → Change) → fault_of got ≡ access_all m l → Does at sr e (f (number_in got)) → Makes l e (reading got f)
   reading-only l e (Ok v) f p h = rw (← p) h
   reading-only l e (Err x) f p h = rw (← p)
 
   -- a value goes to a place that was looked for
   pub put-made : (l : List Wanted) (g : List ℕ) (z : Size) (v : ℕ) (place : Result Place Fault) (next codes : ℕ) (first second : Write)
-      → nowhere place ≡ access_all m l → Makes l (to_place place z v) (put g z v place (done next codes first second))
+      → fault_of place ≡ access_all m l → Makes l (to_place place z v) (put g z v place (done next codes first second))
   unfolding put done store
   put-made l g z v (Ok (D r)) next codes first second e = rw (← e) (does-nothing refl)
   put-made l g z v (Ok (A r)) next codes first second e = rw (← e) (does-nothing refl)
@@ -299,11 +288,11 @@ module _ (at sr : ℕ) (m : Memory) where
   put-made l g z v (Err x) next codes first second e = rw (← e)
 
   pub put_to-made : (l : List Wanted) (g : List ℕ) (codes : ℕ) (to : Destination) (z : Size) (v : ℕ)
-      → nowhere to.place ≡ access_all m l → Makes l (to_place to.place z v) (put_to g codes to z v)
+      → fault_of to.place ≡ access_all m l → Makes l (to_place to.place z v) (put_to g codes to z v)
   unfolding put_to
   put_to-made l g codes to z v e = put-made l g z v to.place to.next codes to.moved no_write e
 
-  pub locating-made : (l : List Wanted) (e : Effect) (place : Result Place Fault) (c : Change) → nowhere place ≡ access_all m l → Does at sr e c → Makes l e (locating place c)
+  pub locating-made : (l : List Wanted) (e : Effect) (place : Result Place Fault) (c : Change) → fault_of place ≡ access_all m l → Does at sr e c → Makes l e (locating place c)
   locating-made l e (Ok (D r)) c p h = rw (← p) h
   locating-made l e (Ok (A r)) c p h = rw (← p) h
   locating-made l e (Ok (M a)) c p h = rw (← p) h
@@ -316,8 +305,8 @@ module _ (at sr : ℕ) (m : Memory) where
     unfolding fetch
     nowhere-fetched x f = refl
 
-    fetch-made : (place : Result Place Fault) (e : Effect) (f : ℕ → Change) → nowhere place ≡ access_all m l
-        → (nowhere place ≡ (Ok tt) → Does at sr e (f (number_in (fetch g m place z))))
+    fetch-made : (place : Result Place Fault) (e : Effect) (f : ℕ → Change) → fault_of place ≡ access_all m l
+        → (fault_of place ≡ Ok tt → Does at sr e (f (number_in (fetch g m place z))))
         → Makes (l ++ own place z) e (reading (fetch g m place z) f)
     fetch-made (Ok (D r)) e f p h = reading-only (l ++ own (Ok (D r)) z) e (fetch g m (Ok (D r)) z) f (missing_at m g z l (Ok (D r)) p) (h refl)
     fetch-made (Ok (A r)) e f p h = reading-only (l ++ own (Ok (A r)) z) e (fetch g m (Ok (A r)) z) f (missing_at m g z l (Ok (A r)) p) (h refl)
@@ -337,7 +326,7 @@ module _ (at sr : ℕ) (m : Memory) where
     source-only e f h = reading-only (operand_at g m pc op z) e (value g m pc (named op) z) f (missing-operand m g pc op z) h
 
     -- it is read and written, or not written
-    pub destination-made : (e : Effect) (f : ℕ → Change) → (nowhere (destination g m pc op z).place ≡ (Ok tt) → Does at sr e (f (operand_value g at sr m op pc z)))
+    pub destination-made : (e : Effect) (f : ℕ → Change) → (fault_of (destination g m pc op z).place ≡ Ok tt → Does at sr e (f (operand_value g at sr m op pc z)))
         → Makes (operand_at g m pc op z) e (reading (fetch g m (destination g m pc op z).place z) f)
     unfolding destination_of value
     destination-made e f h = fetch-made g z (extension_of pc op z) (locate g m pc (named op) z) e f (locate-made m g pc (named op) z) h

@@ -1,5 +1,4 @@
 -- Replies by their numbers: what number a tree of tests gives, and when. Assumes nothing.
-use Rattle.manual.specs.declared.Fault.{Fault}
 use Prim.Native.Nat.{ℕ, zero, suc, ◌/◌, ◌%◌, ◌≤◌, ◌<◌}
 use Rattle.std.specs.Prelude.{◌≡◌, Bool, ◌&&◌, List, [], ◌∷◌, ◌↔◌, ◌⊎◌, eqb, ltb, leb, Result, Option, Ok, Err}
 use Rattle.std.proofs.Math.Path.{refl, ap}
@@ -9,6 +8,7 @@ use Rattle.std.proofs.lemmas.Bool.{false≢true, eqb-false}
 use Rattle.manual.specs.declared.Cpu.{Cpu}
 use Rattle.manual.specs.declared.Size.{Size}
 use Rattle.manual.specs.declared.Size.TheVariants.{Long}
+use Rattle.manual.specs.declared.Fault.{Fault}
 use Rattle.manual.specs.declared.Fault.TheVariants.{Outside as Out}
 use Rattle.manual.specs.Word.{bytes, plus}
 use Rattle.manual.specs.Registers.{address_of}
@@ -187,7 +187,7 @@ module _ (m : Memory) (a n : ℕ) where
   pub one_inside : (SomeOutside m (wanted a n ∷ []) → ⊥) ↔ Inside m a n
   one_inside = (λ h. by (access m a n) refl h, λ i h. taken_or_not Out (sym (ap taken (one_outside.0 h)) ∙ i))
     where
-      by : (x : Result ℕ Fault) → access m a n ≡ x → (SomeOutside m (wanted a n ∷ []) → ⊥) → taken x ≡ (Ok tt)
+      by : (x : Result ℕ Fault) → access m a n ≡ x → (SomeOutside m (wanted a n ∷ []) → ⊥) → taken x ≡ Ok tt
       by (Ok p) i h = refl
       by (Err Out) i h = absurd (h (this i))
 

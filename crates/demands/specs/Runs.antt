@@ -4,11 +4,11 @@
 -- many steps, each of them done; a run that stops early stops at the first step that is refused. Replies 1 and 2 come first at
 -- every budget, with count 0 and the state and memory as given. Budget 0 otherwise gives 0 and count 0. Steps that can be done one
 -- after the other have one end, and a run does them. Memory stays as long as it was, and its bytes stay bytes. Assumes nothing.
-use Rattle.manual.specs.declared.Fault.{Fault}
 use Prim.Native.Nat.{ℕ, zero, suc, ◌+◌, ◌/◌, ◌%◌, ◌<◌}
 use Rattle.std.specs.Prelude.{◌≡◌, refl, Bool, cond, List, ◌⊎◌, eqb, length, Result, Option, Ok, Err, None}
 use Rattle.std.proofs.Common.{sym, ap, ◌∙◌, ⊎_elim, inl, inr, arith}
 use Rattle.std.proofs.Math.Bool.{true, false}
+use Rattle.manual.specs.declared.Fault.{Fault}
 use Rattle.manual.specs.declared.Cpu.{Cpu}
 use Rattle.manual.specs.declared.Reply.TheVariants.{Done, Stopped}
 use Rattle.manual.specs.declared.Size.{Size}

@@ -83,7 +83,7 @@ stopped_not e = let z : ◌≡◌ {A = ℕ} 0 1 = cc in omega arith
 abbrev pub doing : Cpu → Memory → Change
 doing s m = execute s.r s.pc s.sr s.other s.emac m
 
-fetched-by : (x : Result ℕ Fault) (s : Cpu) (m : Memory) → access m s.pc 2 ≡ x → (perform s (doing s m) m).stepped.reply ≡ Done → taken x ≡ (Ok tt)
+fetched-by : (x : Result ℕ Fault) (s : Cpu) (m : Memory) → access m s.pc 2 ≡ x → (perform s (doing s m) m).stepped.reply ≡ Done → taken x ≡ Ok tt
 fetched-by (Ok at) s m i e = refl
 fetched-by (Err x) s m i e =
     absurd

@@ -1,6 +1,7 @@
 -- When a step and a run give each reply. Assumes nothing.
 use Prim.Native.Nat.{ℕ, ◌+◌, ◌/◌, ◌%◌, ◌<◌}
 use Rattle.std.specs.Prelude.{◌≡◌, Bool, true, false, cond, ◌↔◌, T, eqb, Result, Ok, Err}
+use Rattle.std.specs.Result.{result_and}
 use Rattle.std.proofs.Math.Path.{refl, ap}
 use Rattle.std.proofs.Common.{sym, ◌∙◌, arith, eqb→eq}
 use mathlib.Core.List.{List, [], ◌∷◌, ◌++◌}
@@ -25,7 +26,7 @@ use Rattle.demands.specs.Runs.{runs}
 use Rattle.demands.specs.Admits.{admits}
 use Rattle.demands.specs.Accesses.{SomeOutside, reads0, reads4, reads, Wanted, wanted, Inside}
 use Rattle.demands.specs.Effects.{Effect, effects0, effects4, effect, effect_of, puts_of, reads_of, places, accesses, vector_of}
-use Rattle.demands.specs.PartLaws.{Follows, access_all, number_or, some_outside, past-inside, both, all_both}
+use Rattle.demands.specs.PartLaws.{Follows, access_all, number_or, some_outside, past-inside, all_both}
 use Rattle.demands.specs.EffectLaws.{Performs, performs}
 use Rattle.demands.specs.AccessLaws.{fault_number}
 use Rattle.demands.specs.FirstReplies.{first_1, first_2, first_of}
@@ -68,7 +69,7 @@ module _ (s : Cpu) (l : Lent) where
   abbrev all : Result Unit Fault
   all = access_all m (accesses s m)
 
-  after-fetch : Inside m s.pc 2 → all ≡ both (access_all m own) (access_all m done_then)
+  after-fetch : Inside m s.pc 2 → all ≡ result_and (access_all m own) (access_all m done_then)
   unfolding accesses
   after-fetch i = past-inside m s.pc 2 (own ++ done_then) i ∙ all_both m own done_then
 
@@ -78,7 +79,7 @@ module _ (s : Cpu) (l : Lent) where
 
   -- the number n, where the reads' first fault is x and the effect's is y; where it is 0, the effect was had
   record Meets (n : ℕ) (x y : Result Unit Fault) : Type 0 where
-    number : n ≡ number_or (both x y) 0
+    number : n ≡ number_or (result_and x y) 0
     effect_had : n ≡ 0 → Performs s m does (perform s changing m)
 
   changing-meets : Meets (numbered (perform s changing m)) (access_all m own) (access_all m done_then)

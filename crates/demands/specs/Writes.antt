@@ -2,13 +2,13 @@
 --
 -- A step that is done leaves storage with the stores of its row (Effects), one after the other. So it changes no byte outside them, and
 -- they do not overlap: each of them is found in memory after the step, its low bytes at its address. Assumes nothing.
-use Rattle.std.specs.Prelude.{Result, Ok, Err, None}
-use Rattle.manual.specs.declared.Fault.{Fault}
-use Rattle.std.specs.Prelude.{ℕ, zero, suc, ◌+◌, ◌*◌, ◌/◌, ◌%◌, ◌^◌, ◌≤◌, ◌<◌, ◌≡◌, refl, Bool, true, false, cond, List, [], ◌∷◌, ◌++◌, ◌⊎◌, eqb, length, get_or, set}
+use Rattle.std.specs.Prelude.{ℕ, zero, suc, ◌+◌, ◌*◌, ◌/◌, ◌%◌, ◌^◌, ◌≤◌, ◌<◌, ◌≡◌, refl, Bool, true, false, cond, List, [], ◌∷◌, ◌++◌, ◌⊎◌, eqb, length, get_or, set, Result, Ok, Err, None}
+use Rattle.std.specs.Result.{result_and}
 use Rattle.std.proofs.Common.{sym, ap, subst, ◌∙◌, ⊎_elim, inl, inr, pow-suc, mul_right_comm, mod-eq_of_lt, mod-lt, arith, length-set, get_or-set_same}
 use Rattle.std.proofs.Math.Nat.{one-le-pow, div-add-mod, mul-add-mod_self_left}
 use Rattle.manual.specs.declared.Cpu.{Cpu}
 use Rattle.manual.specs.declared.Size.TheVariants.{Byte}
+use Rattle.manual.specs.declared.Fault.{Fault}
 use Rattle.manual.specs.Word.{plus}
 use Rattle.manual.specs.Registers.{address_of, general}
 use Rattle.manual.specs.Memory.{Storage, Memory, storage_of, value_at, store_at, access, taken, number_at}
@@ -27,7 +27,7 @@ use Rattle.demands.specs.ValueLaws.{a7_long}
 use Rattle.demands.specs.TypedLaws.{set_sr-typed, handed-typed}
 use Rattle.demands.specs.EntryLaws as entry
 use Rattle.demands.specs.Effects.{Effect, nothing, stores, pushes_status, stores_many, loads_many, enters, returns, Lawful, handed, Put, put, many_puts, puts_of, places, stored_all, effect_of, writes}
-use Rattle.demands.specs.PartLaws.{access_all, number_or, both, all_both}
+use Rattle.demands.specs.PartLaws.{access_all, number_or, all_both}
 use Rattle.demands.specs.EffectLaws.{Performs, first_taken, vector-fits}
 use Rattle.demands.specs.StepReplies.{of_effect}
 
@@ -114,17 +114,17 @@ there-all b (q ∷ ps) p apart within (later h) =
 
 -- ---- the stores of an effect are inside where they were done, and apart
 
-inside-places : (m : Memory) (ps : List Put) → access_all m (places ps) ≡ (Ok tt) → Within (length (storage_of m)) ps
+inside-places : (m : Memory) (ps : List Put) → access_all m (places ps) ≡ Ok tt → Within (length (storage_of m)) ps
 inside-places m [] h = tt
 inside-places m (p ∷ ps) h =
-    let both : (taken (access m p.address p.count) ≡ (Ok tt)) × (access_all m (places ps) ≡ (Ok tt)) = first_taken (access m p.address p.count) _ h in
+    let both : (taken (access m p.address p.count) ≡ Ok tt) × (access_all m (places ps) ≡ Ok tt) = first_taken (access m p.address p.count) _ h in
     ((inside_is m p.address p.count).0 both.0, inside-places m ps both.1)
 
 -- where the reads after them are too
-stores-taken : (m : Memory) (x y : List Wanted) → number_or (access_all m (x ++ y)) 0 ≡ 0 → access_all m x ≡ (Ok tt)
+stores-taken : (m : Memory) (x y : List Wanted) → number_or (access_all m (x ++ y)) 0 ≡ 0 → access_all m x ≡ Ok tt
 stores-taken m x y h = by (access_all m x) (access_all m y) (ap (λ (z : Result Unit Fault). number_or z 0) (sym (all_both m x y)) ∙ h)
   where
-    by : (x y : Result Unit Fault) → number_or (both x y) 0 ≡ 0 → x ≡ (Ok tt)
+    by : (x y : Result Unit Fault) → number_or (result_and x y) 0 ≡ 0 → x ≡ Ok tt
     by (Ok tt) y h = refl
     by (Err f) y h = absurd (fault_number f h)
 

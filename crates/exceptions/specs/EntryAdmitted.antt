@@ -1,7 +1,7 @@
 -- Entry of an exception and return from it keep a state admitted. Assumes nothing.
-use Rattle.manual.specs.declared.Fault.{Fault}
 use Prim.Native.Nat.{ℕ}
 use Rattle.std.specs.Prelude.{◌≡◌, true, false, Result, Option, Ok, Err}
+use Rattle.manual.specs.declared.Fault.{Fault}
 use Rattle.manual.specs.declared.Cpu.{Cpu}
 use Rattle.manual.specs.declared.Reply.{Reply}
 use Rattle.manual.specs.Registers.{address_of, with_address}

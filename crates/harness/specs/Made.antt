@@ -1,5 +1,4 @@
 -- The calls that do no step, as the code names them. Assumes nothing.
-use Rattle.std.specs.Prelude.{ℕ}
 use Rattle.manual.specs.declared.Cpu.{Cpu}
 use Rattle.manual.specs.Reply.{Outcome}
 use Rattle.manual.specs.Lent.{Lent}

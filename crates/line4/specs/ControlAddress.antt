@@ -1,6 +1,6 @@
 -- The address that LEA, PEA, JSR and JMP work on, with the next instruction's; or the change of an instruction that gets none.
-use Rattle.manual.specs.declared.Fault.{Fault}
 use Rattle.std.specs.Prelude.{ℕ, ◌/◌, ◌%◌, ◌≡◌, refl, List, Result, Option, Ok, Err, Some, None}
+use Rattle.manual.specs.declared.Fault.{Fault}
 use Rattle.manual.specs.declared.Size.TheVariants.{Long}
 use Rattle.manual.specs.declared.Operand.{Operand}
 use Rattle.manual.specs.declared.Change.{Change}

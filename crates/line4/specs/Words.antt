@@ -1,5 +1,6 @@
 -- What products and quotients of longs read: the second word, the operand's value, the next address and the operand's move.
 use Rattle.std.specs.Prelude.{ℕ, ◌≡◌, refl, List, Result, Ok, Err}
+use Rattle.manual.specs.declared.Fault.{Fault}
 use Rattle.manual.specs.declared.Size.TheVariants.{Word, Long}
 use Rattle.manual.specs.declared.Source.{Source}
 use Rattle.manual.specs.declared.Write.{Write}
@@ -10,24 +11,23 @@ use Rattle.manual.specs.Address.{source}
 use Rattle.manual.specs.Change.{refused, reading}
 use Rattle.instructions.specs.Line4.{with_word_and_long, mul_l_by, mul_l, div_l_by, div_l}
 use Rattle.line4.specs.declared.single.WordAndLong.{WordAndLong}
-use Rattle.line4.specs.declared.single.WordAndLong.TheVariants.{Read, Fault}
 
-abbrev pub long_by : ℕ → Source → Result ℕ Fault → WordAndLong
-long_by w from (Ok v) = Read w v from.next from.moved
-long_by w from (Err x) = Fault x
+abbrev pub long_by : ℕ → Source → Result ℕ Fault → Result WordAndLong Fault
+long_by w from (Ok v) = Ok (record { word = w; long = v; next = from.next; moved = from.moved })
+long_by w from (Err x) = Err x
 
-abbrev pub word_by : Result ℕ Fault → Source → WordAndLong
+abbrev pub word_by : Result ℕ Fault → Source → Result WordAndLong Fault
 word_by (Ok w) from = long_by w from from.got
-word_by (Err x) from = Fault x
+word_by (Err x) from = Err x
 
-unfoldable pub word_and_long : List ℕ → ℕ → Memory → ℕ → WordAndLong
+unfoldable pub word_and_long : List ℕ → ℕ → Memory → ℕ → Result WordAndLong Fault
 word_and_long g at m op =
     let pc : ℕ = plus at 2 in
     word_by (load m pc Word) (source g m (plus pc 2) op Long)
 
-abbrev pub after : WordAndLong → (ℕ → Source → ℕ → Change) → Change
-after (Read w v next one) f = f w (record { got = Ok v; next = next; moved = one }) v
-after (Fault x) f = refused x
+abbrev pub after : Result WordAndLong Fault → (ℕ → Source → ℕ → Change) → Change
+after (Ok r) f = f r.word (record { got = Ok r.long; next = r.next; moved = r.moved }) r.long
+after (Err x) f = refused x
 
 by-long : (w : ℕ) (got : Result ℕ Fault) (next : ℕ) (one : Write) (f : ℕ → Source → ℕ → Change)
     → let from : Source = record { got = got; next = next; moved = one } in reading got (f w from) ≡ after (long_by w from got) f

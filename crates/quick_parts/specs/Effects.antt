@@ -1,6 +1,6 @@
 -- A change that is done in place: its registers, its store, and the registers that MOVEM stores or loads. Any other change is left undone.
-use Rattle.manual.specs.declared.Fault.{Fault}
 use Rattle.std.specs.Prelude.{ℕ, List, Result, Ok, Err}
+use Rattle.manual.specs.declared.Fault.{Fault}
 use Rattle.manual.specs.declared.Action.{Action}
 use Rattle.manual.specs.declared.Action.TheVariants.{Nothing, Store, StoreMany, LoadMany, Enter, Return, Status, Stop, PushStatus, Halt, SetOther, Accumulate, SetAcc, SetExt, SetMacsr, SetMask, CopyAcc, ClearAcc, MoveControl, Refuse}
 use Rattle.manual.specs.declared.Change.{Change}

@@ -1,8 +1,8 @@
 -- What a spot says of an operand's place, and a reading of its source. `NotNear` says nothing. Assumes nothing.
-use Rattle.manual.specs.declared.Fault.{Fault}
 use Rattle.std.specs.Prelude.{ℕ, ◌<◌, ◌^◌, ◌≡◌, refl, List, Result, Option, Ok, Some}
 use Rattle.std.proofs.Common.{sym, ◌∙◌}
 use Rattle.std.proofs.Math.Path.{ap}
+use Rattle.manual.specs.declared.Fault.{Fault}
 use Rattle.manual.specs.declared.Size.{Size}
 use Rattle.manual.specs.declared.Size.TheVariants.{Long}
 use Rattle.manual.specs.declared.Operand.{Operand}
@@ -30,7 +30,7 @@ abbrev pub located : List ℕ → Memory → ℕ → Operand → Size → Locate
 located g m pc o z = record { place = locate g m pc o z; next = plus pc (extension o z); step = moved g o z }
 
 abbrev pub in_memory : ℕ → ℕ → Write → Located
-in_memory a next w = record { place = M a; next = next; step = w }
+in_memory a next w = record { place = Ok (M a); next = next; step = w }
 
 abbrev pub spotted : Spot → Located → Located
 spotted (At a next w) l = in_memory a next w
