@@ -1,4 +1,6 @@
 // Line 4: addresses, jumps, the stack and MOVEM.
+#![tactic(auto, unfolding(crate::specs::ControlAddress::control_address, instructions::specs::Line4::jmp, instructions::specs::Line4::jsr, instructions::specs::Line4::lea, instructions::specs::Line4::link, instructions::specs::Line4::many, instructions::specs::Line4::movem, instructions::specs::Line4::nop, instructions::specs::Line4::pea, instructions::specs::Line4::rts, instructions::specs::Line4::trap, instructions::specs::Line4::unlk, manual::specs::Change::acting, manual::specs::Registers::no_write))]
+
 ghost use Rattle.std.specs.Prelude.{◌≡◌, ◌+◌, ◌*◌, ◌/◌, ◌%◌, ◌<◌};
 ghost use Rattle.manual.specs.Memory.{mapped};
 ghost use Rattle.manual.specs.Registers.{no_write};

@@ -1,4 +1,6 @@
 // Line 4 by its rows.
+#![tactic(auto, unfolding(instructions::specs::Line4::line4, instructions::specs::Rows::place_in))]
+
 ghost use Rattle.std.specs.Prelude.{◌≡◌, ◌+◌, ◌*◌, ◌/◌, ◌%◌, ◌<◌};
 ghost use Rattle.manual.specs.Memory.{mapped};
 ghost use Rattle.instructions.specs.Line4.{line4 as line4_of};

@@ -1,4 +1,6 @@
 // Line 4: instructions of one operand, products and quotients.
+#![tactic(auto, unfolding(crate::specs::Words::word_and_long, instructions::specs::Line4::clr, instructions::specs::Line4::div_l, instructions::specs::Line4::divided, instructions::specs::Line4::ext_l, instructions::specs::Line4::ext_w, instructions::specs::Line4::extb, instructions::specs::Line4::mul_l, instructions::specs::Line4::neg, instructions::specs::Line4::negx, instructions::specs::Line4::not, instructions::specs::Line4::sats, instructions::specs::Line4::saturated, instructions::specs::Line4::swap, instructions::specs::Line4::tas, instructions::specs::Line4::tst, manual::specs::Change::done, manual::specs::Flags::move_codes, manual::specs::Multiply::long_product, manual::specs::Multiply::signed_long_product, manual::specs::Registers::no_write, manual::specs::Registers::write_data, manual::specs::Word::plus))]
+
 ghost use Rattle.std.specs.Prelude.{◌≡◌, cond, eqb, ◌+◌, ◌*◌, ◌/◌, ◌%◌, ◌<◌};
 ghost use Rattle.manual.specs.Memory.{mapped};
 ghost use Rattle.manual.specs.declared.Size.TheVariants.{Long};

@@ -1,4 +1,6 @@
 // Line 4: the status register, the control registers, and what the supervisor alone may do.
+#![tactic(auto, unfolding(instructions::specs::Line4::halt, instructions::specs::Line4::move_from_ccr, instructions::specs::Line4::move_from_sr, instructions::specs::Line4::move_from_usp, instructions::specs::Line4::move_to_ccr, instructions::specs::Line4::move_to_sr, instructions::specs::Line4::move_to_usp, instructions::specs::Line4::movec, instructions::specs::Line4::rte, instructions::specs::Line4::stldsr, instructions::specs::Line4::stop, manual::specs::Change::privilege, manual::specs::Flags::kept_codes))]
+
 ghost use Rattle.std.specs.Prelude.{◌≡◌, cond, ◌+◌, ◌*◌, ◌/◌, ◌%◌, ◌<◌};
 ghost use Rattle.manual.specs.Memory.{mapped};
 ghost use Rattle.manual.specs.Exceptions.{supervisor};

@@ -1,4 +1,6 @@
 // Single bits.
+#![tactic(auto, unfolding(manual::specs::Bits::changed_bit))]
+
 ghost use Rattle.std.specs.Prelude.{◌≡◌, ◌%◌};
 ghost use Rattle.manual.specs.Bits.{changed_bit};
 

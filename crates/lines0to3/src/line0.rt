@@ -1,4 +1,6 @@
 // Line 0: bit operations and immediates.
+#![tactic(auto, unfolding(instructions::specs::Line0::bit_by_immediate, instructions::specs::Line0::bit_by_register, instructions::specs::Line0::bit_of_byte, instructions::specs::Line0::bit_of_data, instructions::specs::Line0::bit_operation, instructions::specs::Line0::bitrev, instructions::specs::Line0::byterev, instructions::specs::Line0::cmpi, instructions::specs::Line0::ff1, instructions::specs::Line0::line0, instructions::specs::Line0::logic_immediate, instructions::specs::Line0::sum_immediate, instructions::specs::Rows::place_in))]
+
 ghost use Rattle.std.specs.Prelude.{◌≡◌, ◌+◌, ◌*◌, ◌/◌, ◌%◌, ◌<◌};
 ghost use Rattle.manual.specs.Memory.{mapped};
 ghost use Rattle.instructions.specs.Line0.{bitrev as bitrev_of, byterev as byterev_of, ff1 as ff1_of, logic_immediate, sum_immediate, cmpi as cmpi_of, bit_of_data, bit_of_byte, bit_operation, bit_by_register, bit_by_immediate, line0 as line0_of};

@@ -1,4 +1,6 @@
 // Lines 1, 2 and 3: MOVE and MOVEA.
+#![tactic(auto, unfolding(crate::specs::MoveLaws::move_to, crate::specs::MoveLaws::move_to_data, crate::specs::MoveLines::move_line, crate::specs::MoveLines::move_row, crate::specs::MoveLines::move_size, crate::specs::MoveLines::movea_row, instructions::specs::Moves::movea, manual::specs::Address::destination_of, manual::specs::Registers::written))]
+
 ghost use Rattle.std.specs.Prelude.{◌≡◌, ◌+◌, ◌*◌, ◌/◌, ◌%◌, ◌<◌};
 ghost use Rattle.manual.specs.Memory.{mapped};
 ghost use Rattle.manual.specs.Registers.{written as written_of};

@@ -1,4 +1,6 @@
 // Line 5: ADDQ, SUBQ, Scc and TPF.
+#![tactic(auto, unfolding(instructions::specs::Line5::addq, instructions::specs::Line5::addq_address, instructions::specs::Line5::line5, instructions::specs::Line5::quick_number, instructions::specs::Line5::scc, instructions::specs::Line5::tpf, instructions::specs::Rows::place_in))]
+
 ghost use Rattle.std.specs.Prelude.{◌≡◌, ◌+◌, ◌*◌, ◌/◌, ◌%◌, ◌<◌};
 ghost use Rattle.instructions.specs.Line5.{quick_number, quick_adds, addq_address, addq as addq_of, scc as scc_of, tpf as tpf_of, line5 as line5_of};
 ghost use Rattle.manual.specs.Memory.{mapped};

@@ -1,4 +1,6 @@
 // Line 6: BRA, BSR and Bcc.
+#![tactic(auto, unfolding(instructions::specs::Line6::bcc, instructions::specs::Line6::bra, instructions::specs::Line6::bsr, instructions::specs::Line6::displacement, instructions::specs::Line6::displacement_bytes, instructions::specs::Line6::line6, instructions::specs::Rows::place_in))]
+
 ghost use Rattle.std.specs.Prelude.{◌≡◌, ◌+◌, ◌*◌, ◌/◌, ◌%◌};
 ghost use Rattle.manual.specs.Memory.{mapped};
 ghost use Rattle.instructions.specs.Line6.{displacement as displacement_of, displacement_bytes, bra as bra_of, bsr as bsr_of, bcc as bcc_of, line6 as line6_of};

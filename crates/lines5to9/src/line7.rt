@@ -1,4 +1,6 @@
 // Line 7: MOVEQ, MVS and MVZ.
+#![tactic(auto, unfolding(instructions::specs::Line7::line7, instructions::specs::Line7::moveq, instructions::specs::Line7::mvs, instructions::specs::Line7::mvz, instructions::specs::Rows::place_in))]
+
 ghost use Rattle.std.specs.Prelude.{◌≡◌, ◌+◌, ◌*◌, ◌/◌, ◌%◌};
 ghost use Rattle.manual.specs.Memory.{mapped};
 ghost use Rattle.instructions.specs.Line7.{moveq as moveq_of, mvs as mvs_of, mvz as mvz_of, line7 as line7_of};

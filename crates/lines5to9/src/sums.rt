@@ -1,4 +1,6 @@
 // Sums and differences: ADD, ADDA, ADDX, SUB, SUBA, SUBX, and what ADDQ and SUBQ do to a place.
+#![tactic(auto, unfolding(instructions::specs::Line9D::add_to_data, instructions::specs::Line9D::add_to_memory, instructions::specs::Line9D::add_to_place, instructions::specs::Line9D::adda, instructions::specs::Line9D::addx, instructions::specs::Line9D::more_or_less, instructions::specs::Line9D::sums, instructions::specs::Rows::place_in))]
+
 ghost use Rattle.std.specs.Prelude.{◌≡◌, ◌+◌, ◌*◌, ◌/◌, ◌%◌};
 ghost use Rattle.instructions.specs.Line9D.{add_to_data, add_to_place, add_to_memory, more_or_less, adda as adda_of, addx as addx_of, sums as sums_of};
 ghost use Rattle.manual.specs.Memory.{mapped};

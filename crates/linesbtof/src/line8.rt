@@ -1,4 +1,6 @@
 // Line 8: OR, DIVU.W and DIVS.W. It stands here because OR is line C's AND with the other operation.
+#![tactic(auto, unfolding(instructions::specs::Line8::div_w, instructions::specs::Line8::line8, instructions::specs::Line8::word_divided, instructions::specs::Rows::place_in))]
+
 ghost use Rattle.std.specs.Prelude.{◌≡◌};
 ghost use Rattle.manual.specs.Memory.{mapped};
 ghost use Rattle.instructions.specs.Line8.{word_divided, div_w, line8 as line8_of};

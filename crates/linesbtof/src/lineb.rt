@@ -1,4 +1,6 @@
 // Line B: CMP, CMPA and EOR.
+#![tactic(auto, unfolding(instructions::specs::LineB::cmp, instructions::specs::LineB::cmpa, instructions::specs::LineB::line_b, instructions::specs::LineB::logic_to_place, instructions::specs::Rows::place_in))]
+
 ghost use Rattle.std.specs.Prelude.{◌≡◌};
 ghost use Rattle.instructions.specs.LineB.{cmp as cmp_of, cmpa as cmpa_of, logic_to_place, line_b as line_b_of};
 ghost use Rattle.manual.specs.Memory.{mapped};

@@ -1,4 +1,6 @@
 // Line C: AND, MULU.W and MULS.W.
+#![tactic(auto, unfolding(instructions::specs::LineC::line_c, instructions::specs::LineC::logic_to_data, instructions::specs::LineC::mul_w, instructions::specs::LineC::product, instructions::specs::Rows::place_in))]
+
 ghost use Rattle.std.specs.Prelude.{◌≡◌};
 ghost use Rattle.instructions.specs.LineC.{logic_to_data, product as product_of, mul_w, line_c as line_c_of};
 ghost use Rattle.manual.specs.Memory.{mapped};

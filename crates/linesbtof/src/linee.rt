@@ -1,4 +1,6 @@
 // Line E: shifts of a data register.
+#![tactic(auto, unfolding(instructions::specs::LineE::line_e, instructions::specs::LineE::shift, instructions::specs::LineE::shift_count, instructions::specs::LineE::shifted, instructions::specs::Rows::place_in))]
+
 ghost use Rattle.std.specs.Prelude.{◌≡◌, ◌<◌};
 ghost use Rattle.instructions.specs.LineE.{shift_count, shifted as shifted_of, shift as shift_of, line_e as line_e_of};
 

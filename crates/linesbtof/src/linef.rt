@@ -1,4 +1,6 @@
 // Line F: cache and debug instructions, and the words of the missing floating-point unit.
+#![tactic(auto, unfolding(instructions::specs::LineF::cache_line, instructions::specs::LineF::line_f, instructions::specs::LineF::wddata, instructions::specs::LineF::wdebug, instructions::specs::Rows::place_in))]
+
 ghost use Rattle.std.specs.Prelude.{◌≡◌};
 ghost use Rattle.manual.specs.Memory.{mapped};
 ghost use Rattle.instructions.specs.LineF.{wdebug as wdebug_of, cache_line, wddata as wddata_of, line_f as line_f_of};
