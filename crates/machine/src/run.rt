@@ -15,8 +15,6 @@ use exceptions::entry::refusal;
 use manual::{Cpu, Emac, Ran, Reply, Size, Stepped};
 use memory::load;
 use quick::{in_place, summed};
-use quick_bodies::mac::Summed;
-use quick_parts::inplace::Effect;
 use rows::{row_by, top_rows};
 use state::replies::{fault_reply, is_done};
 use state::status::first_refusal;
@@ -26,10 +24,10 @@ fn ended(reply: Reply, count: u32, vector: u8, cpu: Cpu) -> Progress
     ensures { result ≡ ended_as reply count vector cpu }
 {
     Progress {
-        reply: reply,
-        count: count,
-        vector: vector,
-        cpu: cpu,
+        reply,
+        count,
+        vector,
+        cpu,
     }
 }
 
@@ -37,17 +35,7 @@ fn ended(reply: Reply, count: u32, vector: u8, cpu: Cpu) -> Progress
 fn assembled(rest: Cpu, g: [u32; 16], pc: u32, sr: u16, macsr: u32, mask: u32, acc: [u64; 4]) -> Cpu
     ensures { result ≡ with_parts g pc sr (emac_of macsr mask acc) rest }
 {
-    with_parts(
-        rest,
-        g,
-        pc,
-        sr,
-        Emac {
-            macsr: macsr,
-            mask: mask,
-            acc: acc,
-        },
-    )
+    with_parts(rest, g, pc, sr, Emac { macsr, mask, acc })
 }
 
 // As many steps as the budget says, or up to one that is refused. The registers stand apart from the rest of the state, which is checked
@@ -67,7 +55,6 @@ fn advanced(top: &[u8], given: Cpu, mem: &mut [u8], budget: u32) -> Progress
     let mut vector: u8 = 0;
     let mut n: u32 = 0;
     while n < budget {
-        let done = n + 1;
         if rest.stopped {
             let last = assembled(rest, g, pc, sr, macsr, mask, acc);
             return ended(Reply::Stopped, n, 0, last);
@@ -80,32 +67,27 @@ fn advanced(top: &[u8], given: Cpu, mem: &mut [u8], budget: u32) -> Progress
             }
         };
         let row = row_by(top, op);
-        if let Effect::Done(next, now) = in_place(row, &mut g, pc, sr, mem, op) {
-            pc = next;
-            sr = now;
+        if let Some(done) = in_place(row, &mut g, pc, sr, mem, op) {
+            pc = done.pc;
+            sr = done.sr;
             vector = 0;
-            n = done;
+            n += 1;
             continue;
         }
-        if let Summed::Done(next, now) = summed(
-            row, &mut g, &mut acc, pc, sr, macsr, mask, &*mem, op,
-        ) {
-            pc = next;
-            macsr = now;
+        if let Some(done) = summed(row, &mut g, &mut acc, pc, sr, macsr, mask, &*mem, op) {
+            pc = done.pc;
+            macsr = done.macsr;
             vector = 0;
-            n = done;
+            n += 1;
             continue;
         }
         let other = rest.other;
-        match plain(row, &mut g, pc, sr, other, macsr, mask, &acc, mem, op) {
-            Effect::Done(next, now) => {
-                pc = next;
-                sr = now;
-                vector = 0;
-                n = done;
-                continue;
-            }
-            Effect::Left => {}
+        if let Some(done) = plain(row, &mut g, pc, sr, other, macsr, mask, &acc, mem, op) {
+            pc = done.pc;
+            sr = done.sr;
+            vector = 0;
+            n += 1;
+            continue;
         }
         let held = assembled(rest, g, pc, sr, macsr, mask, acc);
         let stepped = performed(row, held, mem, op);
@@ -122,7 +104,7 @@ fn advanced(top: &[u8], given: Cpu, mem: &mut [u8], budget: u32) -> Progress
         mask = next.emac.mask;
         acc = next.emac.acc;
         vector = stepped.vector;
-        n = done;
+        n += 1;
     }
     let last = assembled(rest, g, pc, sr, macsr, mask, acc);
     ended(Reply::Done, n, vector, last)
@@ -137,7 +119,7 @@ pub fn run(cpu: Cpu, mem: &mut [u8], budget: u32) -> Ran
         return Ran {
             reply: first,
             count: 0,
-            cpu: cpu,
+            cpu,
         };
     }
     let top = top_rows();

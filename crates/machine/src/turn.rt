@@ -25,11 +25,11 @@ pub(crate) fn plain(
     acc: &[u64; 4],
     mem: &mut [u8],
     op: u32,
-) -> Effect
+) -> Option<Effect>
     ensures { after result g.new mem.new ≡ agreed result (of_row row g.old pc sr other (emac_of macsr mask acc.now) (mapped mem.old) op) sr g.old (mapped mem.old) }
 {
-    if let Effect::Done(next, now) = far(row, g, pc, sr, mem, op) {
-        return Effect::Done(next, now);
+    if let Some(done) = far(row, g, pc, sr, mem, op) {
+        return Some(done);
     }
     let c = instruction(row, &*g, pc, sr, other, macsr, mask, acc, &*mem, op);
     carried_out(g, mem, sr, c)

@@ -25,7 +25,7 @@ use quick_bodies::logic::{bit_by_immediate, bit_by_register, eor_to_data, logic_
 use quick_bodies::mac::{Summed, quick_mac};
 use quick_bodies::moves::{clr, lea, move_long, movea};
 use quick_bodies::parts::part;
-use quick_bodies::sums::{add_to_data, adda, addq, cmp, cmpa, cmpi, sub_to_data, suba};
+use quick_bodies::sums::{add_to_data, adda, addq, cmp, cmpa, cmpi};
 use quick_parts::inplace::{Effect, changed, stored};
 
 // What AND and OR make of two numbers, by their row. They share one call of their body, so that a compiler puts it there.
@@ -43,7 +43,14 @@ fn logic_of(row: u8) -> Logic
 // The instructions that leave the EMAC unit as it is. The bodies of quick_bodies are for the quick path alone; the others are the plain engine's.
 // The default case is for the rows of `part`, which leaves any other: a pattern that names neighbours becomes a chain of tests, and the
 // default case is reached by the table of jumps. MAC is left for the caller's next question, so that no other row pays for it.
-pub fn in_place(row: u8, g: &mut [u32; 16], pc: u32, sr: u16, mem: &mut [u8], op: u32) -> Effect
+pub fn in_place(
+    row: u8,
+    g: &mut [u32; 16],
+    pc: u32,
+    sr: u16,
+    mem: &mut [u8],
+    op: u32,
+) -> Option<Effect>
     ensures { (other : ℕ) (e : Emac) → after result g.new mem.new ≡ agreed result (of_row row g.old pc sr other e (mapped mem.old) op) sr g.old (mapped mem.old) }
 {
     match row {
@@ -81,17 +88,17 @@ pub fn in_place(row: u8, g: &mut [u32; 16], pc: u32, sr: u16, mem: &mut [u8], op
         }
         rows::BCC => bcc(g, pc, sr, &*mem, op),
         rows::MOVEQ => changed(g, sr, moveq(pc, sr, op)),
-        rows::SUBA_L => suba(g, pc, sr, &*mem, op),
-        rows::SUB_DN => sub_to_data(g, pc, sr, &*mem, op),
+        rows::SUBA_L => adda::<false>(g, pc, sr, &*mem, op),
+        rows::SUB_DN => add_to_data::<false>(g, pc, sr, &*mem, op),
         rows::CMPA_L => cmpa(g, pc, sr, &*mem, op),
         rows::CMP => cmp(g, pc, sr, &*mem, op),
         rows::EOR => eor_to_data(g, pc, sr, op),
         rows::AND_DN | rows::OR_DN => { logic_to_data(logic_of(row), g, pc, sr, &*mem, op) }
-        rows::ADDA_L => adda(g, pc, sr, &*mem, op),
-        rows::ADD_DN => add_to_data(g, pc, sr, &*mem, op),
+        rows::ADDA_L => adda::<true>(g, pc, sr, &*mem, op),
+        rows::ADD_DN => add_to_data::<true>(g, pc, sr, &*mem, op),
         rows::ASX => changed(g, sr, shift(true, &*g, pc, sr, op)),
         rows::LSX => changed(g, sr, shift(false, &*g, pc, sr, op)),
-        rows::MAC => Effect::Left,
+        rows::MAC => None,
         _ => part(row, g, pc, sr, mem, op),
     }
 }
@@ -109,11 +116,11 @@ pub fn summed(
     mask: u32,
     mem: &[u8],
     op: u32,
-) -> Summed
+) -> Option<Summed>
     ensures { (other : ℕ) → after_mac result sr macsr mask acc.new g.new ≡ agreed_mac result (of_row row g.old pc sr other (emac_of macsr mask acc.old) (mapped mem.now) op) sr (emac_of macsr mask acc.old) g.old }
 {
     if row != rows::MAC {
-        return Summed::Left;
+        return None;
     }
     quick_mac(g, acc, pc, sr, macsr, mask, mem, op)
 }

@@ -4,6 +4,7 @@ ghost use Rattle.manual.specs.Memory.{mapped};
 ghost use Rattle.instructions.specs.Line4.{jsr as jsr_of, pea as pea_of, movem};
 ghost use Rattle.instructions.specs.Line6.{bcc as bcc_of};
 ghost use Rattle.quick_parts.specs.Effects.{after, agreed};
+ghost use Rattle.quick_bodies.specs.Parts.{places_many};
 
 use address::changes::{jump, push};
 use manual::Size;
@@ -16,20 +17,17 @@ use word::registers::{address, coded};
 use word::word::{plus, sign_extended};
 
 // Line6.bcc, of a byte and of a word
-pub fn bcc(g: &mut [u32; 16], pc: u32, sr: u16, mem: &[u8], op: u32) -> Effect
+pub fn bcc(g: &mut [u32; 16], pc: u32, sr: u16, mem: &[u8], op: u32) -> Option<Effect>
     ensures { after result g.new mem.now ≡ agreed result (bcc_of pc sr (mapped mem.now) op) sr g.old (mapped mem.now) }
 {
     let at = plus(pc, 2);
     let low = op % 256;
     if low == 255 {
-        return Effect::Left;
+        return None;
     }
     let holds = condition(op / 256, sr);
     if low == 0 {
-        let d = match load(mem, at, Size::Word) {
-            Ok(d) => d,
-            Err(_) => return Effect::Left,
-        };
+        let d = load(mem, at, Size::Word).ok()?;
         if holds {
             return changed(g, sr, jump(sr, plus(at, sign_extended(Size::Word, d))));
         }
@@ -42,7 +40,7 @@ pub fn bcc(g: &mut [u32; 16], pc: u32, sr: u16, mem: &[u8], op: u32) -> Effect
 }
 
 // Line4.jsr, of (An) and of an absolute long
-pub fn jsr(g: &mut [u32; 16], pc: u32, sr: u16, mem: &mut [u8], op: u32) -> Effect
+pub fn jsr(g: &mut [u32; 16], pc: u32, sr: u16, mem: &mut [u8], op: u32) -> Option<Effect>
     ensures { after result g.new mem.new ≡ agreed result (jsr_of g.old pc sr (mapped mem.old) op) sr g.old (mapped mem.old) }
 {
     let at = plus(pc, 2);
@@ -50,95 +48,79 @@ pub fn jsr(g: &mut [u32; 16], pc: u32, sr: u16, mem: &mut [u8], op: u32) -> Effe
         let c = push(&*g, sr, address(&*g, op % 8), plus(at, 0));
         return stored(g, mem, sr, c);
     }
-    if op / 8 % 8 != 7 {
-        return Effect::Left;
+    if op / 8 % 8 != 7 || op % 8 != 1 {
+        return None;
     }
-    if op % 8 != 1 {
-        return Effect::Left;
-    }
-    let a = match load(&*mem, at, Size::Long) {
-        Ok(a) => a,
-        Err(_) => return Effect::Left,
-    };
+    let a = load(&*mem, at, Size::Long).ok()?;
     let c = push(&*g, sr, a, plus(at, 4));
     stored(g, mem, sr, c)
 }
 
 // Line4.pea, of d16(An)
-pub fn pea(g: &mut [u32; 16], pc: u32, sr: u16, mem: &mut [u8], op: u32) -> Effect
+pub fn pea(g: &mut [u32; 16], pc: u32, sr: u16, mem: &mut [u8], op: u32) -> Option<Effect>
     ensures { after result g.new mem.new ≡ agreed result (pea_of g.old pc sr (mapped mem.old) op) sr g.old (mapped mem.old) }
 {
     if op / 8 % 8 != 5 {
-        return Effect::Left;
+        return None;
     }
     let at = plus(pc, 2);
-    let d = match load(&*mem, at, Size::Word) {
-        Ok(d) => d,
-        Err(_) => return Effect::Left,
-    };
+    let d = load(&*mem, at, Size::Word).ok()?;
     let a = plus(address(&*g, op % 8), sign_extended(Size::Word, d));
     let c = push(&*g, sr, plus(at, 2), a);
     stored(g, mem, sr, c)
 }
 
-// Line4.movem true
-pub fn movem_store(g: &[u32; 16], pc: u32, sr: u16, mem: &mut [u8], op: u32) -> Effect
-    ensures { after result g.now mem.new ≡ agreed result (movem true g.now pc sr (mapped mem.old) op) sr g.now (mapped mem.old) }
-{
+// MOVEM's registers by their mask, their place in memory, and the address after its extension words.
+#[derive(Clone, Copy)]
+struct Many {
+    mask: u32,
+    at: u32,
+    next: u32,
+}
+
+// Which registers MOVEM moves and where, of (An) and d16(An).
+fn many(g: &[u32; 16], pc: u32, mem: &[u8], op: u32) -> Option<Many> {
     let at = plus(pc, 2);
-    let mask = match load(&*mem, at, Size::Word) {
-        Ok(mask) => mask,
-        Err(_) => return Effect::Left,
-    };
+    let mask = load(mem, at, Size::Word).ok()?;
     let a = address(g, op % 8);
-    let same = coded(sr, kept_codes(sr));
-    if op / 8 % 8 == 2 {
-        return match store_many(mem, g, mask, a) {
-            Ok(()) => Effect::Done(plus(at, 2), same),
-            Err(_) => Effect::Left,
-        };
-    }
-    if op / 8 % 8 != 5 {
-        return Effect::Left;
-    }
-    let d = match load(&*mem, plus(at, 2), Size::Word) {
-        Ok(d) => d,
-        Err(_) => return Effect::Left,
-    };
-    let b = plus(a, sign_extended(Size::Word, d));
-    match store_many(mem, g, mask, b) {
-        Ok(()) => Effect::Done(plus(at, 4), same),
-        Err(_) => Effect::Left,
+    match op / 8 % 8 {
+        2 => Some(Many {
+            mask,
+            at: a,
+            next: plus(at, 2),
+        }),
+        5 => {
+            let d = load(mem, plus(at, 2), Size::Word).ok()?;
+            Some(Many {
+                mask,
+                at: plus(a, sign_extended(Size::Word, d)),
+                next: plus(at, 4),
+            })
+        }
+        _ => None,
     }
 }
 
+// Line4.movem true
+pub fn movem_store(g: &[u32; 16], pc: u32, sr: u16, mem: &mut [u8], op: u32) -> Option<Effect>
+    ensures { after result g.now mem.new ≡ agreed result (movem true g.now pc sr (mapped mem.old) op) sr g.now (mapped mem.old) }
+{
+    let Many { mask, at, next } = many(g, pc, &*mem, op)?;
+    store_many(mem, g, mask, at).ok()?;
+    Some(Effect {
+        pc: next,
+        sr: coded(sr, kept_codes(sr)),
+    })
+}
+
 // Line4.movem false
-pub fn movem_load(g: &mut [u32; 16], pc: u32, sr: u16, mem: &[u8], op: u32) -> Effect
+pub fn movem_load(g: &mut [u32; 16], pc: u32, sr: u16, mem: &[u8], op: u32) -> Option<Effect>
     ensures { after result g.new mem.now ≡ agreed result (movem false g.old pc sr (mapped mem.now) op) sr g.old (mapped mem.now) }
 {
-    let at = plus(pc, 2);
-    let mask = match load(mem, at, Size::Word) {
-        Ok(mask) => mask,
-        Err(_) => return Effect::Left,
-    };
-    let a = address(&*g, op % 8);
-    let same = coded(sr, kept_codes(sr));
-    if op / 8 % 8 == 2 {
-        return match load_many(mem, g, mask, a) {
-            Ok(()) => Effect::Done(plus(at, 2), same),
-            Err(_) => Effect::Left,
-        };
-    }
-    if op / 8 % 8 != 5 {
-        return Effect::Left;
-    }
-    let d = match load(mem, plus(at, 2), Size::Word) {
-        Ok(d) => d,
-        Err(_) => return Effect::Left,
-    };
-    let b = plus(a, sign_extended(Size::Word, d));
-    match load_many(mem, g, mask, b) {
-        Ok(()) => Effect::Done(plus(at, 4), same),
-        Err(_) => Effect::Left,
-    }
+    let Many { mask, at, next } = many(&*g, pc, mem, op)?;
+    load_many(mem, g, mask, at).ok()?;
+    Some(Effect {
+        pc: next,
+        sr: coded(sr, kept_codes(sr)),
+    })
 }

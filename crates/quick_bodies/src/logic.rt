@@ -13,49 +13,55 @@ use line4::single::product;
 use lines0to3::line0::bit_of_data;
 use manual::{Logic, Size};
 use memory::load;
-use quick_parts::Reading;
 use quick_parts::inplace::{Effect, changed};
-use quick_parts::longs::long_move_codes;
 use quick_parts::operands::read_long;
 use word::bits::logic;
+use word::flags::move_codes;
 use word::registers::{data, no_write, write_data};
 use word::word::{cut, merged, plus};
 
 // LineC.logic_to_data, of a long
-pub fn logic_to_data(l: Logic, g: &mut [u32; 16], pc: u32, sr: u16, mem: &[u8], op: u32) -> Effect
+pub fn logic_to_data(
+    l: Logic,
+    g: &mut [u32; 16],
+    pc: u32,
+    sr: u16,
+    mem: &[u8],
+    op: u32,
+) -> Option<Effect>
     ensures { after result g.new mem.now ≡ agreed result (logic_to_data l g.old pc sr (mapped mem.now) op) sr g.old (mapped mem.now) }
 {
     if op / 64 % 4 != 2 {
-        return Effect::Left;
+        return None;
     }
-    let Reading::Read(v, next, first) = read_long(&*g, mem, plus(pc, 2), op) else {
-        return Effect::Left;
-    };
+    let from = read_long(&*g, mem, plus(pc, 2), op)?;
     let old = data(&*g, op / 512 % 8);
-    let r = logic(l, v, old);
-    let codes = long_move_codes(r, sr);
+    let r = logic(l, from.value, old);
+    let codes = move_codes(Size::Long, r, sr);
     let whole = merged(Size::Long, old, r);
     changed(
         g,
         sr,
-        done(next, codes, first, write_data(op / 512 % 8, whole)),
+        done(
+            from.next,
+            codes,
+            from.moved,
+            write_data(op / 512 % 8, whole),
+        ),
     )
 }
 
 // LineB.logic_to_place Eor, of a long in Dn
-pub fn eor_to_data(g: &mut [u32; 16], pc: u32, sr: u16, op: u32) -> Effect
+pub fn eor_to_data(g: &mut [u32; 16], pc: u32, sr: u16, op: u32) -> Option<Effect>
     ensures { (m : Memory) → after result g.new (storage_of m) ≡ agreed result (logic_to_place Eor g.old pc sr m op) sr g.old m }
 {
-    if op / 8 % 8 != 0 {
-        return Effect::Left;
-    }
-    if op / 64 % 4 != 2 {
-        return Effect::Left;
+    if op / 8 % 8 != 0 || op / 64 % 4 != 2 {
+        return None;
     }
     let next = plus(plus(pc, 2), 0);
     let old = data(&*g, op % 8);
     let r = logic(Logic::Eor, cut(Size::Long, old), data(&*g, op / 512 % 8));
-    let codes = long_move_codes(r, sr);
+    let codes = move_codes(Size::Long, r, sr);
     let whole = merged(Size::Long, old, r);
     changed(
         g,
@@ -65,47 +71,39 @@ pub fn eor_to_data(g: &mut [u32; 16], pc: u32, sr: u16, op: u32) -> Effect
 }
 
 // Line4.mul_l
-pub fn mul_l(g: &mut [u32; 16], pc: u32, sr: u16, mem: &[u8], op: u32) -> Effect
+pub fn mul_l(g: &mut [u32; 16], pc: u32, sr: u16, mem: &[u8], op: u32) -> Option<Effect>
     ensures { after result g.new mem.now ≡ agreed result (mul_l g.old pc sr (mapped mem.now) op) sr g.old (mapped mem.now) }
 {
     let at = plus(pc, 2);
-    let w = match load(mem, at, Size::Word) {
-        Ok(w) => w,
-        Err(_) => return Effect::Left,
-    };
-    let Reading::Read(v, next, first) = read_long(&*g, mem, plus(at, 2), op) else {
-        return Effect::Left;
-    };
-    let r = product(w, data(&*g, w / 0x1000 % 8), v);
-    let codes = long_move_codes(r, sr);
+    let w = load(mem, at, Size::Word).ok()?;
+    let from = read_long(&*g, mem, plus(at, 2), op)?;
+    let r = product(w, data(&*g, w / 0x1000 % 8), from.value);
+    let codes = move_codes(Size::Long, r, sr);
     changed(
         g,
         sr,
-        done(next, codes, first, write_data(w / 0x1000 % 8, r)),
+        done(from.next, codes, from.moved, write_data(w / 0x1000 % 8, r)),
     )
 }
 
 // Line0.bit_by_register, of Dn
-pub fn bit_by_register(g: &mut [u32; 16], pc: u32, sr: u16, op: u32) -> Effect
+pub fn bit_by_register(g: &mut [u32; 16], pc: u32, sr: u16, op: u32) -> Option<Effect>
     ensures { (m : Memory) → after result g.new (storage_of m) ≡ agreed result (bit_by_register g.old pc sr m op) sr g.old m }
 {
     if op / 8 % 8 != 0 {
-        return Effect::Left;
+        return None;
     }
     let n = data(&*g, op / 512 % 8);
     changed(g, sr, bit_of_data(&*g, plus(pc, 2), sr, op, n))
 }
 
 // Line0.bit_by_immediate, of Dn
-pub fn bit_by_immediate(g: &mut [u32; 16], pc: u32, sr: u16, mem: &[u8], op: u32) -> Effect
+pub fn bit_by_immediate(g: &mut [u32; 16], pc: u32, sr: u16, mem: &[u8], op: u32) -> Option<Effect>
     ensures { after result g.new mem.now ≡ agreed result (bit_by_immediate g.old pc sr (mapped mem.now) op) sr g.old (mapped mem.now) }
 {
     if op / 8 % 8 != 0 {
-        return Effect::Left;
+        return None;
     }
-    let n = match load(mem, plus(pc, 2), Size::Word) {
-        Ok(n) => n,
-        Err(_) => return Effect::Left,
-    };
+    let n = load(mem, plus(pc, 2), Size::Word).ok()?;
     changed(g, sr, bit_of_data(&*g, plus(pc, 4), sr, op, n))
 }

@@ -7,54 +7,51 @@ use manual::{Action, Change};
 use memory::store;
 use word::registers::{coded, write};
 
-// Done, with the next address and the status register; or left undone, with nothing changed.
+// The next address and the status register, once a change is done. What is left undone, with nothing changed, answers none.
 #[derive(Clone, Copy)]
-pub enum Effect {
-    Done(u32, u16),
-    Left,
+pub struct Effect {
+    pub pc: u32,
+    pub sr: u16,
 }
 
 // A change with nothing more to do, whatever the memory.
-pub fn changed(g: &mut [u32; 16], sr: u16, c: Change) -> Effect
+pub fn changed(g: &mut [u32; 16], sr: u16, c: Change) -> Option<Effect>
     ensures { (m : Memory) → after result g.new (storage_of m) ≡ agreed result c sr g.old m }
 {
-    let first = c.first;
-    let second = c.second;
-    let action = c.action;
-    let Action::Nothing = action else {
-        return Effect::Left;
+    let Action::Nothing = c.action else {
+        return None;
     };
-    write(g, first);
-    write(g, second);
-    Effect::Done(c.pc, coded(sr, c.ccr))
+    write(g, c.first);
+    write(g, c.second);
+    Some(Effect {
+        pc: c.pc,
+        sr: coded(sr, c.ccr),
+    })
 }
 
 // A change with a store.
-pub fn stored(g: &mut [u32; 16], mem: &mut [u8], sr: u16, c: Change) -> Effect
+pub fn stored(g: &mut [u32; 16], mem: &mut [u8], sr: u16, c: Change) -> Option<Effect>
     ensures { after result g.new mem.new ≡ agreed result c sr g.old (mapped mem.old) }
 {
-    let first = c.first;
-    let second = c.second;
-    let action = c.action;
-    let Action::Store(a, z, v) = action else {
-        return Effect::Left;
+    let Action::Store(a, z, v) = c.action else {
+        return None;
     };
-    if let Err(_) = store(mem, a, z, v) {
-        return Effect::Left;
-    }
-    write(g, first);
-    write(g, second);
-    Effect::Done(c.pc, coded(sr, c.ccr))
+    store(mem, a, z, v).ok()?;
+    write(g, c.first);
+    write(g, c.second);
+    Some(Effect {
+        pc: c.pc,
+        sr: coded(sr, c.ccr),
+    })
 }
 
 // Any change, where that is all it does.
-pub fn carried_out(g: &mut [u32; 16], mem: &mut [u8], sr: u16, c: Change) -> Effect
+pub fn carried_out(g: &mut [u32; 16], mem: &mut [u8], sr: u16, c: Change) -> Option<Effect>
     ensures { after result g.new mem.new ≡ agreed result c sr g.old (mapped mem.old) }
 {
-    let action = c.action;
-    match action {
+    match c.action {
         Action::Nothing => changed(g, sr, c),
         Action::Store(_, _, _) => stored(g, mem, sr, c),
-        _ => Effect::Left,
+        _ => None,
     }
 }
