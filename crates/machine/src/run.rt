@@ -67,24 +67,21 @@ fn advanced(top: &[u8], given: Cpu, mem: &mut [u8], budget: u32) -> Progress
             }
         };
         let row = row_by(top, op);
-        if let Some(done) = in_place(row, &mut g, pc, sr, mem, op) {
-            pc = done.pc;
-            sr = done.sr;
+        if let Some(next) = in_place(row, &mut g, pc, &mut sr, mem, op) {
+            pc = next;
             vector = 0;
             n += 1;
             continue;
         }
-        if let Some(done) = summed(row, &mut g, &mut acc, pc, sr, macsr, mask, &*mem, op) {
-            pc = done.pc;
-            macsr = done.macsr;
+        if let Some(next) = summed(row, &mut g, &mut acc, pc, &mut macsr, mask, &*mem, op) {
+            pc = next;
             vector = 0;
             n += 1;
             continue;
         }
         let other = rest.other;
-        if let Some(done) = plain(row, &mut g, pc, sr, other, macsr, mask, &acc, mem, op) {
-            pc = done.pc;
-            sr = done.sr;
+        if let Some(next) = plain(row, &mut g, pc, &mut sr, other, macsr, mask, &acc, mem, op) {
+            pc = next;
             vector = 0;
             n += 1;
             continue;

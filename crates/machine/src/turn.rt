@@ -11,27 +11,27 @@ use super::execute::instruction;
 use super::perform::perform;
 use manual::{Cpu, Stepped};
 use quick_bodies::far::far;
-use quick_parts::inplace::{Effect, carried_out};
+use quick_parts::inplace::carried_out;
 
 // In place, or left. All but MOVE stands behind the call of `instruction`, so that what is rare takes no room in the loop.
 pub(crate) fn plain(
     row: u8,
     g: &mut [u32; 16],
     pc: u32,
-    sr: u16,
+    sr: &mut u16,
     other: u32,
     macsr: u32,
     mask: u32,
     acc: &[u64; 4],
     mem: &mut [u8],
     op: u32,
-) -> Option<Effect>
-    ensures { after result g.new mem.new ≡ agreed result (of_row row g.old pc sr other (emac_of macsr mask acc.now) (mapped mem.old) op) sr g.old (mapped mem.old) }
+) -> Option<u32>
+    ensures { after result sr.new g.new mem.new ≡ agreed result (of_row row g.old pc sr.old other (emac_of macsr mask acc.now) (mapped mem.old) op) sr.old g.old (mapped mem.old) }
 {
-    if let Some(done) = far(row, g, pc, sr, mem, op) {
-        return Some(done);
+    if let Some(next) = far(row, g, pc, sr, mem, op) {
+        return Some(next);
     }
-    let c = instruction(row, &*g, pc, sr, other, macsr, mask, acc, &*mem, op);
+    let c = instruction(row, &*g, pc, *sr, other, macsr, mask, acc, &*mem, op);
     carried_out(g, mem, sr, c)
 }
 

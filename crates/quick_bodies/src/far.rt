@@ -11,13 +11,20 @@ use super::moves::move_to_data;
 use address::operands::operand;
 use lines0to3::lines1to3::{move_to, written};
 use manual::Size;
-use quick_parts::inplace::{Effect, carried_out};
+use quick_parts::inplace::carried_out;
 use quick_parts::operands::read_any;
 use word::word::plus;
 
 // Moves.move
-fn far_move(z: Size, g: &mut [u32; 16], pc: u32, sr: u16, mem: &mut [u8], op: u32) -> Option<Effect>
-    ensures { after result g.new mem.new ≡ agreed result (move_of z g.old pc sr (mapped mem.old) op) sr g.old (mapped mem.old) }
+fn far_move(
+    z: Size,
+    g: &mut [u32; 16],
+    pc: u32,
+    sr: &mut u16,
+    mem: &mut [u8],
+    op: u32,
+) -> Option<u32>
+    ensures { after result sr.new g.new mem.new ≡ agreed result (move_of z g.old pc sr.old (mapped mem.old) op) sr.old g.old (mapped mem.old) }
 {
     let from = read_any(z, &*g, &*mem, plus(pc, 2), op)?;
     if op / 64 % 8 == 0 {
@@ -26,15 +33,22 @@ fn far_move(z: Size, g: &mut [u32; 16], pc: u32, sr: u16, mem: &mut [u8], op: u3
     let moved = written(&*g, from.moved);
     let target = operand(op / 64 % 8, op / 512 % 8);
     let c = move_to(
-        z, &moved, sr, &*mem, from.next, from.moved, target, from.value,
+        z, &moved, *sr, &*mem, from.next, from.moved, target, from.value,
     );
     carried_out(g, mem, sr, c)
 }
 
 // MOVE done in place, or left with nothing changed.
 // Of MOVE's three rows; any other is left.
-pub fn far(row: u8, g: &mut [u32; 16], pc: u32, sr: u16, mem: &mut [u8], op: u32) -> Option<Effect>
-    ensures { (other : ℕ) (e : Emac) → after result g.new mem.new ≡ agreed result (of_row row g.old pc sr other e (mapped mem.old) op) sr g.old (mapped mem.old) }
+pub fn far(
+    row: u8,
+    g: &mut [u32; 16],
+    pc: u32,
+    sr: &mut u16,
+    mem: &mut [u8],
+    op: u32,
+) -> Option<u32>
+    ensures { (other : ℕ) (e : Emac) → after result sr.new g.new mem.new ≡ agreed result (of_row row g.old pc sr.old other e (mapped mem.old) op) sr.old g.old (mapped mem.old) }
 {
     let z = match row {
         rows::MOVE_B => Size::Byte,

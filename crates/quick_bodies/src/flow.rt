@@ -10,55 +10,54 @@ use address::changes::{jump, push};
 use manual::Size;
 use memory::load;
 use memory::many::{load_many, store_many};
-use quick_parts::inplace::{Effect, changed, stored};
+use quick_parts::inplace::{changed, stored};
 use word::conditions::condition;
-use word::flags::kept_codes;
-use word::registers::{address, coded};
+use word::registers::address;
 use word::word::{plus, sign_extended};
 
 // Line6.bcc, of a byte and of a word
-pub fn bcc(g: &mut [u32; 16], pc: u32, sr: u16, mem: &[u8], op: u32) -> Option<Effect>
-    ensures { after result g.new mem.now ≡ agreed result (bcc_of pc sr (mapped mem.now) op) sr g.old (mapped mem.now) }
+pub fn bcc(g: &mut [u32; 16], pc: u32, sr: &mut u16, mem: &[u8], op: u32) -> Option<u32>
+    ensures { after result sr.new g.new mem.now ≡ agreed result (bcc_of pc sr.old (mapped mem.now) op) sr.old g.old (mapped mem.now) }
 {
     let at = plus(pc, 2);
     let low = op % 256;
     if low == 255 {
         return None;
     }
-    let holds = condition(op / 256, sr);
+    let holds = condition(op / 256, *sr);
     if low == 0 {
         let d = load(mem, at, Size::Word).ok()?;
         if holds {
-            return changed(g, sr, jump(sr, plus(at, sign_extended(Size::Word, d))));
+            return changed(g, sr, jump(*sr, plus(at, sign_extended(Size::Word, d))));
         }
-        return changed(g, sr, jump(sr, plus(at, 2)));
+        return changed(g, sr, jump(*sr, plus(at, 2)));
     }
     if holds {
-        return changed(g, sr, jump(sr, plus(at, sign_extended(Size::Byte, low))));
+        return changed(g, sr, jump(*sr, plus(at, sign_extended(Size::Byte, low))));
     }
-    changed(g, sr, jump(sr, plus(at, 0)))
+    changed(g, sr, jump(*sr, plus(at, 0)))
 }
 
 // Line4.jsr, of (An) and of an absolute long
-pub fn jsr(g: &mut [u32; 16], pc: u32, sr: u16, mem: &mut [u8], op: u32) -> Option<Effect>
-    ensures { after result g.new mem.new ≡ agreed result (jsr_of g.old pc sr (mapped mem.old) op) sr g.old (mapped mem.old) }
+pub fn jsr(g: &mut [u32; 16], pc: u32, sr: &mut u16, mem: &mut [u8], op: u32) -> Option<u32>
+    ensures { after result sr.new g.new mem.new ≡ agreed result (jsr_of g.old pc sr.old (mapped mem.old) op) sr.old g.old (mapped mem.old) }
 {
     let at = plus(pc, 2);
     if op / 8 % 8 == 2 {
-        let c = push(&*g, sr, address(&*g, op % 8), plus(at, 0));
+        let c = push(&*g, *sr, address(&*g, op % 8), plus(at, 0));
         return stored(g, mem, sr, c);
     }
     if op / 8 % 8 != 7 || op % 8 != 1 {
         return None;
     }
     let a = load(&*mem, at, Size::Long).ok()?;
-    let c = push(&*g, sr, a, plus(at, 4));
+    let c = push(&*g, *sr, a, plus(at, 4));
     stored(g, mem, sr, c)
 }
 
 // Line4.pea, of d16(An)
-pub fn pea(g: &mut [u32; 16], pc: u32, sr: u16, mem: &mut [u8], op: u32) -> Option<Effect>
-    ensures { after result g.new mem.new ≡ agreed result (pea_of g.old pc sr (mapped mem.old) op) sr g.old (mapped mem.old) }
+pub fn pea(g: &mut [u32; 16], pc: u32, sr: &mut u16, mem: &mut [u8], op: u32) -> Option<u32>
+    ensures { after result sr.new g.new mem.new ≡ agreed result (pea_of g.old pc sr.old (mapped mem.old) op) sr.old g.old (mapped mem.old) }
 {
     if op / 8 % 8 != 5 {
         return None;
@@ -66,7 +65,7 @@ pub fn pea(g: &mut [u32; 16], pc: u32, sr: u16, mem: &mut [u8], op: u32) -> Opti
     let at = plus(pc, 2);
     let d = load(&*mem, at, Size::Word).ok()?;
     let a = plus(address(&*g, op % 8), sign_extended(Size::Word, d));
-    let c = push(&*g, sr, plus(at, 2), a);
+    let c = push(&*g, *sr, plus(at, 2), a);
     stored(g, mem, sr, c)
 }
 
@@ -102,25 +101,19 @@ fn many(g: &[u32; 16], pc: u32, mem: &[u8], op: u32) -> Option<Many> {
 }
 
 // Line4.movem true
-pub fn movem_store(g: &[u32; 16], pc: u32, sr: u16, mem: &mut [u8], op: u32) -> Option<Effect>
-    ensures { after result g.now mem.new ≡ agreed result (movem true g.now pc sr (mapped mem.old) op) sr g.now (mapped mem.old) }
+pub fn movem_store(g: &[u32; 16], pc: u32, mem: &mut [u8], op: u32) -> Option<u32>
+    ensures { (sr : ℕ) → after result sr g.now mem.new ≡ agreed result (movem true g.now pc sr (mapped mem.old) op) sr g.now (mapped mem.old) }
 {
     let Many { mask, at, next } = many(g, pc, &*mem, op)?;
     store_many(mem, g, mask, at).ok()?;
-    Some(Effect {
-        pc: next,
-        sr: coded(sr, kept_codes(sr)),
-    })
+    Some(next)
 }
 
 // Line4.movem false
-pub fn movem_load(g: &mut [u32; 16], pc: u32, sr: u16, mem: &[u8], op: u32) -> Option<Effect>
-    ensures { after result g.new mem.now ≡ agreed result (movem false g.old pc sr (mapped mem.now) op) sr g.old (mapped mem.now) }
+pub fn movem_load(g: &mut [u32; 16], pc: u32, mem: &[u8], op: u32) -> Option<u32>
+    ensures { (sr : ℕ) → after result sr g.new mem.now ≡ agreed result (movem false g.old pc sr (mapped mem.now) op) sr g.old (mapped mem.now) }
 {
     let Many { mask, at, next } = many(&*g, pc, mem, op)?;
     load_many(mem, g, mask, at).ok()?;
-    Some(Effect {
-        pc: next,
-        sr: coded(sr, kept_codes(sr)),
-    })
+    Some(next)
 }

@@ -13,7 +13,7 @@ use line4::single::product;
 use lines0to3::line0::bit_of_data;
 use manual::{Logic, Size};
 use memory::load;
-use quick_parts::inplace::{Effect, changed};
+use quick_parts::inplace::changed;
 use quick_parts::operands::read_long;
 use word::bits::logic;
 use word::flags::move_codes;
@@ -25,11 +25,11 @@ pub fn logic_to_data(
     l: Logic,
     g: &mut [u32; 16],
     pc: u32,
-    sr: u16,
+    sr: &mut u16,
     mem: &[u8],
     op: u32,
-) -> Option<Effect>
-    ensures { after result g.new mem.now ≡ agreed result (logic_to_data l g.old pc sr (mapped mem.now) op) sr g.old (mapped mem.now) }
+) -> Option<u32>
+    ensures { after result sr.new g.new mem.now ≡ agreed result (logic_to_data l g.old pc sr.old (mapped mem.now) op) sr.old g.old (mapped mem.now) }
 {
     if op / 64 % 4 != 2 {
         return None;
@@ -37,7 +37,7 @@ pub fn logic_to_data(
     let from = read_long(&*g, mem, plus(pc, 2), op)?;
     let old = data(&*g, op / 512 % 8);
     let r = logic(l, from.value, old);
-    let codes = move_codes(Size::Long, r, sr);
+    let codes = move_codes(Size::Long, r, *sr);
     let whole = merged(Size::Long, old, r);
     changed(
         g,
@@ -52,8 +52,8 @@ pub fn logic_to_data(
 }
 
 // LineB.logic_to_place Eor, of a long in Dn
-pub fn eor_to_data(g: &mut [u32; 16], pc: u32, sr: u16, op: u32) -> Option<Effect>
-    ensures { (m : Memory) → after result g.new (storage_of m) ≡ agreed result (logic_to_place Eor g.old pc sr m op) sr g.old m }
+pub fn eor_to_data(g: &mut [u32; 16], pc: u32, sr: &mut u16, op: u32) -> Option<u32>
+    ensures { (m : Memory) → after result sr.new g.new (storage_of m) ≡ agreed result (logic_to_place Eor g.old pc sr.old m op) sr.old g.old m }
 {
     if op / 8 % 8 != 0 || op / 64 % 4 != 2 {
         return None;
@@ -61,7 +61,7 @@ pub fn eor_to_data(g: &mut [u32; 16], pc: u32, sr: u16, op: u32) -> Option<Effec
     let next = plus(plus(pc, 2), 0);
     let old = data(&*g, op % 8);
     let r = logic(Logic::Eor, cut(Size::Long, old), data(&*g, op / 512 % 8));
-    let codes = move_codes(Size::Long, r, sr);
+    let codes = move_codes(Size::Long, r, *sr);
     let whole = merged(Size::Long, old, r);
     changed(
         g,
@@ -71,14 +71,14 @@ pub fn eor_to_data(g: &mut [u32; 16], pc: u32, sr: u16, op: u32) -> Option<Effec
 }
 
 // Line4.mul_l
-pub fn mul_l(g: &mut [u32; 16], pc: u32, sr: u16, mem: &[u8], op: u32) -> Option<Effect>
-    ensures { after result g.new mem.now ≡ agreed result (mul_l g.old pc sr (mapped mem.now) op) sr g.old (mapped mem.now) }
+pub fn mul_l(g: &mut [u32; 16], pc: u32, sr: &mut u16, mem: &[u8], op: u32) -> Option<u32>
+    ensures { after result sr.new g.new mem.now ≡ agreed result (mul_l g.old pc sr.old (mapped mem.now) op) sr.old g.old (mapped mem.now) }
 {
     let at = plus(pc, 2);
     let w = load(mem, at, Size::Word).ok()?;
     let from = read_long(&*g, mem, plus(at, 2), op)?;
     let r = product(w, data(&*g, w / 0x1000 % 8), from.value);
-    let codes = move_codes(Size::Long, r, sr);
+    let codes = move_codes(Size::Long, r, *sr);
     changed(
         g,
         sr,
@@ -87,23 +87,29 @@ pub fn mul_l(g: &mut [u32; 16], pc: u32, sr: u16, mem: &[u8], op: u32) -> Option
 }
 
 // Line0.bit_by_register, of Dn
-pub fn bit_by_register(g: &mut [u32; 16], pc: u32, sr: u16, op: u32) -> Option<Effect>
-    ensures { (m : Memory) → after result g.new (storage_of m) ≡ agreed result (bit_by_register g.old pc sr m op) sr g.old m }
+pub fn bit_by_register(g: &mut [u32; 16], pc: u32, sr: &mut u16, op: u32) -> Option<u32>
+    ensures { (m : Memory) → after result sr.new g.new (storage_of m) ≡ agreed result (bit_by_register g.old pc sr.old m op) sr.old g.old m }
 {
     if op / 8 % 8 != 0 {
         return None;
     }
     let n = data(&*g, op / 512 % 8);
-    changed(g, sr, bit_of_data(&*g, plus(pc, 2), sr, op, n))
+    changed(g, sr, bit_of_data(&*g, plus(pc, 2), *sr, op, n))
 }
 
 // Line0.bit_by_immediate, of Dn
-pub fn bit_by_immediate(g: &mut [u32; 16], pc: u32, sr: u16, mem: &[u8], op: u32) -> Option<Effect>
-    ensures { after result g.new mem.now ≡ agreed result (bit_by_immediate g.old pc sr (mapped mem.now) op) sr g.old (mapped mem.now) }
+pub fn bit_by_immediate(
+    g: &mut [u32; 16],
+    pc: u32,
+    sr: &mut u16,
+    mem: &[u8],
+    op: u32,
+) -> Option<u32>
+    ensures { after result sr.new g.new mem.now ≡ agreed result (bit_by_immediate g.old pc sr.old (mapped mem.now) op) sr.old g.old (mapped mem.now) }
 {
     if op / 8 % 8 != 0 {
         return None;
     }
     let n = load(mem, plus(pc, 2), Size::Word).ok()?;
-    changed(g, sr, bit_of_data(&*g, plus(pc, 4), sr, op, n))
+    changed(g, sr, bit_of_data(&*g, plus(pc, 4), *sr, op, n))
 }

@@ -14,13 +14,6 @@ use quick_parts::Spot;
 use word::registers::{address, general, no_write, write, write_address, write_general};
 use word::word::{minus, plus, sign_extended};
 
-// The next address and MACSR, once a product is summed. What is left undone, with nothing changed, answers none.
-#[derive(Clone, Copy)]
-pub struct Summed {
-    pub pc: u32,
-    pub macsr: u32,
-}
-
 // What is yet to be summed, the registers being written: the next address, the accumulator's number, the scale, whether it is
 // subtracted, and the factors.
 #[derive(Clone, Copy)]
@@ -129,26 +122,23 @@ pub fn quick_mac(
     g: &mut [u32; 16],
     acc: &mut [u64; 4],
     pc: u32,
-    sr: u16,
-    macsr: u32,
+    macsr: &mut u32,
     mask: u32,
     mem: &[u8],
     op: u32,
-) -> Option<Summed>
-    ensures { after_mac result sr macsr mask acc.new g.new ≡ agreed_mac result (mac g.old pc sr macsr mask (mapped mem.now) op) sr (emac_of macsr mask acc.old) g.old }
+) -> Option<u32>
+    ensures { (sr : ℕ) → after_mac result sr macsr.new mask acc.new g.new ≡ agreed_mac result (mac g.old pc sr macsr.old mask (mapped mem.now) op) sr (emac_of macsr.old mask acc.old) g.old }
 {
-    let p = mac_product(g, pc, macsr, mask, mem, op)?;
-    Some(Summed {
-        pc: p.next,
-        macsr: accumulate_plainly(
-            macsr,
-            mask,
-            acc,
-            p.accumulator,
-            p.scale,
-            p.subtracted,
-            p.x,
-            p.y,
-        ),
-    })
+    let p = mac_product(g, pc, *macsr, mask, mem, op)?;
+    *macsr = accumulate_plainly(
+        *macsr,
+        mask,
+        acc,
+        p.accumulator,
+        p.scale,
+        p.subtracted,
+        p.x,
+        p.y,
+    );
+    Some(p.next)
 }

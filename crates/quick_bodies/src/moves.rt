@@ -11,7 +11,7 @@ ghost use Rattle.quick_parts.specs.Effects.{after, agreed};
 
 use address::changes::{done, store};
 use manual::Size;
-use quick_parts::inplace::{Effect, changed, stored};
+use quick_parts::inplace::{changed, stored};
 use quick_parts::operands::{control_spot, read_long, spot};
 use quick_parts::{Reading, Spot};
 use word::flags::{kept_codes, move_codes};
@@ -22,14 +22,14 @@ use word::word::{merged, plus, sign_extended, size_of};
 pub(crate) fn move_to_data(
     z: Size,
     g: &mut [u32; 16],
-    sr: u16,
+    sr: &mut u16,
     op: u32,
     from: Reading,
-) -> Option<Effect>
+) -> Option<u32>
     requires { op / 64 % 8 ≡ 0 }
-    ensures { (at : ℕ) (m : Memory) → source g.old m (plus_of at 2) op z ≡ read_as from → after result g.new (storage_of m) ≡ agreed result (move_of z g.old at sr m op) sr g.old m }
+    ensures { (at : ℕ) (m : Memory) → source g.old m (plus_of at 2) op z ≡ read_as from → after result sr.new g.new (storage_of m) ≡ agreed result (move_of z g.old at sr.old m op) sr.old g.old m }
 {
-    let codes = move_codes(z, from.value, sr);
+    let codes = move_codes(z, from.value, *sr);
     let whole = merged(z, data(&*g, op / 512 % 8), from.value);
     changed(
         g,
@@ -48,12 +48,12 @@ pub(crate) fn move_to_data(
 pub(crate) fn move_read(
     z: Size,
     g: &mut [u32; 16],
-    sr: u16,
+    sr: &mut u16,
     mem: &mut [u8],
     op: u32,
     from: Reading,
-) -> Option<Effect>
-    ensures { (at : ℕ) → source g.old (mapped mem.old) (plus_of at 2) op z ≡ read_as from → after result g.new mem.new ≡ agreed result (move_of z g.old at sr (mapped mem.old) op) sr g.old (mapped mem.old) }
+) -> Option<u32>
+    ensures { (at : ℕ) → source g.old (mapped mem.old) (plus_of at 2) op z ≡ read_as from → after result sr.new g.new mem.new ≡ agreed result (move_of z g.old at sr.old (mapped mem.old) op) sr.old g.old (mapped mem.old) }
 {
     if op / 64 % 8 == 0 {
         return move_to_data(z, g, sr, op, from);
@@ -61,14 +61,14 @@ pub(crate) fn move_read(
     let r = op / 512 % 8;
     let a = address_after(&*g, from.moved, r);
     let Spot { at, next, moved } = spot(z, &*mem, from.next, op / 64 % 8, r, a)?;
-    let codes = move_codes(z, from.value, sr);
+    let codes = move_codes(z, from.value, *sr);
     let c = store(next, codes, from.moved, moved, at, z, from.value);
     stored(g, mem, sr, c)
 }
 
 // Moves.move Long
-pub fn move_long(g: &mut [u32; 16], pc: u32, sr: u16, mem: &mut [u8], op: u32) -> Option<Effect>
-    ensures { after result g.new mem.new ≡ agreed result (move_of Long g.old pc sr (mapped mem.old) op) sr g.old (mapped mem.old) }
+pub fn move_long(g: &mut [u32; 16], pc: u32, sr: &mut u16, mem: &mut [u8], op: u32) -> Option<u32>
+    ensures { after result sr.new g.new mem.new ≡ agreed result (move_of Long g.old pc sr.old (mapped mem.old) op) sr.old g.old (mapped mem.old) }
 {
     let from = read_long(&*g, &*mem, plus(pc, 2), op)?;
     move_read(Size::Long, g, sr, mem, op, from)
@@ -79,13 +79,13 @@ pub fn move_long(g: &mut [u32; 16], pc: u32, sr: u16, mem: &mut [u8], op: u32) -
 pub(crate) fn movea_read(
     z: Size,
     g: &mut [u32; 16],
-    sr: u16,
+    sr: &mut u16,
     op: u32,
     from: Reading,
-) -> Option<Effect>
-    ensures { (at : ℕ) (m : Memory) → source g.old m (plus_of at 2) op z ≡ read_as from → after result g.new (storage_of m) ≡ agreed result (movea_of z g.old at sr m op) sr g.old m }
+) -> Option<u32>
+    ensures { (at : ℕ) (m : Memory) → source g.old m (plus_of at 2) op z ≡ read_as from → after result sr.new g.new (storage_of m) ≡ agreed result (movea_of z g.old at sr.old m op) sr.old g.old m }
 {
-    let codes = kept_codes(sr);
+    let codes = kept_codes(*sr);
     let whole = sign_extended(z, from.value);
     changed(
         g,
@@ -100,19 +100,19 @@ pub(crate) fn movea_read(
 }
 
 // Moves.movea Long
-pub fn movea(g: &mut [u32; 16], pc: u32, sr: u16, mem: &[u8], op: u32) -> Option<Effect>
-    ensures { after result g.new mem.now ≡ agreed result (movea_of Long g.old pc sr (mapped mem.now) op) sr g.old (mapped mem.now) }
+pub fn movea(g: &mut [u32; 16], pc: u32, sr: &mut u16, mem: &[u8], op: u32) -> Option<u32>
+    ensures { after result sr.new g.new mem.now ≡ agreed result (movea_of Long g.old pc sr.old (mapped mem.now) op) sr.old g.old (mapped mem.now) }
 {
     let from = read_long(&*g, mem, plus(pc, 2), op)?;
     movea_read(Size::Long, g, sr, op, from)
 }
 
 // Line4.lea, of d16(An), of d8(An,Xi) and of absolute addresses
-pub fn lea(g: &mut [u32; 16], pc: u32, sr: u16, mem: &[u8], op: u32) -> Option<Effect>
-    ensures { after result g.new mem.now ≡ agreed result (lea_of g.old pc sr (mapped mem.now) op) sr g.old (mapped mem.now) }
+pub fn lea(g: &mut [u32; 16], pc: u32, sr: &mut u16, mem: &[u8], op: u32) -> Option<u32>
+    ensures { after result sr.new g.new mem.now ≡ agreed result (lea_of g.old pc sr.old (mapped mem.now) op) sr.old g.old (mapped mem.now) }
 {
     let Spot { at, next, moved } = control_spot(&*g, mem, plus(pc, 2), op)?;
-    let codes = kept_codes(sr);
+    let codes = kept_codes(*sr);
     changed(
         g,
         sr,
@@ -121,11 +121,11 @@ pub fn lea(g: &mut [u32; 16], pc: u32, sr: u16, mem: &[u8], op: u32) -> Option<E
 }
 
 // Line4.clr
-pub fn clr(g: &mut [u32; 16], pc: u32, sr: u16, mem: &mut [u8], op: u32) -> Option<Effect>
-    ensures { after result g.new mem.new ≡ agreed result (clr_of g.old pc sr (mapped mem.old) op) sr g.old (mapped mem.old) }
+pub fn clr(g: &mut [u32; 16], pc: u32, sr: &mut u16, mem: &mut [u8], op: u32) -> Option<u32>
+    ensures { after result sr.new g.new mem.new ≡ agreed result (clr_of g.old pc sr.old (mapped mem.old) op) sr.old g.old (mapped mem.old) }
 {
     let z = size_of(op / 64);
-    let codes = move_codes(z, 0, sr);
+    let codes = move_codes(z, 0, *sr);
     if op / 8 % 8 == 0 {
         let next = plus(plus(pc, 2), 0);
         let whole = merged(z, data(&*g, op % 8), 0);

@@ -20,17 +20,17 @@ use address::changes::done;
 use linesbtof::linec::product;
 use manual::Size;
 use quick_parts::Reading;
-use quick_parts::inplace::{Effect, changed};
+use quick_parts::inplace::changed;
 use quick_parts::operands::read;
 use word::flags::move_codes;
 use word::registers::{data, no_write, write_data};
 use word::word::{byte_or_word, plus, sign_extended, size_of};
 
 // Line7.mvz
-fn mvz(g: &mut [u32; 16], sr: u16, op: u32, from: Reading) -> Option<Effect>
-    ensures { (at : ℕ) (m : Memory) → source g.old m (plus_of at 2) op (byte_or_word op) ≡ read_as from → after result g.new (storage_of m) ≡ agreed result (mvz_of g.old at sr m op) sr g.old m }
+fn mvz(g: &mut [u32; 16], sr: &mut u16, op: u32, from: Reading) -> Option<u32>
+    ensures { (at : ℕ) (m : Memory) → source g.old m (plus_of at 2) op (byte_or_word op) ≡ read_as from → after result sr.new g.new (storage_of m) ≡ agreed result (mvz_of g.old at sr.old m op) sr.old g.old m }
 {
-    let codes = move_codes(Size::Long, from.value, sr);
+    let codes = move_codes(Size::Long, from.value, *sr);
     changed(
         g,
         sr,
@@ -44,11 +44,11 @@ fn mvz(g: &mut [u32; 16], sr: u16, op: u32, from: Reading) -> Option<Effect>
 }
 
 // Line7.mvs
-fn mvs(g: &mut [u32; 16], sr: u16, op: u32, from: Reading) -> Option<Effect>
-    ensures { (at : ℕ) (m : Memory) → source g.old m (plus_of at 2) op (byte_or_word op) ≡ read_as from → after result g.new (storage_of m) ≡ agreed result (mvs_of g.old at sr m op) sr g.old m }
+fn mvs(g: &mut [u32; 16], sr: &mut u16, op: u32, from: Reading) -> Option<u32>
+    ensures { (at : ℕ) (m : Memory) → source g.old m (plus_of at 2) op (byte_or_word op) ≡ read_as from → after result sr.new g.new (storage_of m) ≡ agreed result (mvs_of g.old at sr.old m op) sr.old g.old m }
 {
     let whole = sign_extended(byte_or_word(op), from.value);
-    let codes = move_codes(Size::Long, whole, sr);
+    let codes = move_codes(Size::Long, whole, *sr);
     changed(
         g,
         sr,
@@ -62,19 +62,19 @@ fn mvs(g: &mut [u32; 16], sr: u16, op: u32, from: Reading) -> Option<Effect>
 }
 
 // Line4.tst
-fn tst(g: &mut [u32; 16], sr: u16, op: u32, from: Reading) -> Option<Effect>
-    ensures { (at : ℕ) (m : Memory) → source g.old m (plus_of at 2) op (size_field op) ≡ read_as from → after result g.new (storage_of m) ≡ agreed result (tst_of g.old at sr m op) sr g.old m }
+fn tst(g: &mut [u32; 16], sr: &mut u16, op: u32, from: Reading) -> Option<u32>
+    ensures { (at : ℕ) (m : Memory) → source g.old m (plus_of at 2) op (size_field op) ≡ read_as from → after result sr.new g.new (storage_of m) ≡ agreed result (tst_of g.old at sr.old m op) sr.old g.old m }
 {
-    let codes = move_codes(size_of(op / 64), from.value, sr);
+    let codes = move_codes(size_of(op / 64), from.value, *sr);
     changed(g, sr, done(from.next, codes, from.moved, no_write()))
 }
 
 // LineC.mul_w
-fn mul_w(signs: bool, g: &mut [u32; 16], sr: u16, op: u32, from: Reading) -> Option<Effect>
-    ensures { (at : ℕ) (m : Memory) → source g.old m (plus_of at 2) op Word ≡ read_as from → after result g.new (storage_of m) ≡ agreed result (mul_w signs g.old at sr m op) sr g.old m }
+fn mul_w(signs: bool, g: &mut [u32; 16], sr: &mut u16, op: u32, from: Reading) -> Option<u32>
+    ensures { (at : ℕ) (m : Memory) → source g.old m (plus_of at 2) op Word ≡ read_as from → after result sr.new g.new (storage_of m) ≡ agreed result (mul_w signs g.old at sr.old m op) sr.old g.old m }
 {
     let r = product(signs, data(&*g, op / 512 % 8), from.value);
-    let codes = move_codes(Size::Long, r, sr);
+    let codes = move_codes(Size::Long, r, *sr);
     changed(
         g,
         sr,
@@ -95,8 +95,15 @@ fn part_of(row: u8, op: u32) -> Size
 
 // MOVE, MOVEA, TST, MVS, MVZ, MULU.W and MULS.W of bytes and words, done in place or left.
 // Of the rows named here; any other is left.
-pub fn part(row: u8, g: &mut [u32; 16], pc: u32, sr: u16, mem: &mut [u8], op: u32) -> Option<Effect>
-    ensures { (other : ℕ) (e : Emac) → after result g.new mem.new ≡ agreed result (of_row row g.old pc sr other e (mapped mem.old) op) sr g.old (mapped mem.old) }
+pub fn part(
+    row: u8,
+    g: &mut [u32; 16],
+    pc: u32,
+    sr: &mut u16,
+    mem: &mut [u8],
+    op: u32,
+) -> Option<u32>
+    ensures { (other : ℕ) (e : Emac) → after result sr.new g.new mem.new ≡ agreed result (of_row row g.old pc sr.old other e (mapped mem.old) op) sr.old g.old (mapped mem.old) }
 {
     let z = part_of(row, op);
     let from = read(z, &*g, &*mem, plus(pc, 2), op)?;

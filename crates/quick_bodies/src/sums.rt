@@ -13,7 +13,7 @@ use lines5to9::line5::quick_number;
 use lines5to9::sums::more_or_less;
 use manual::Size;
 use memory::load;
-use quick_parts::inplace::{Effect, changed};
+use quick_parts::inplace::changed;
 use quick_parts::longs::long_sum;
 use quick_parts::operands::read_long;
 use word::flags::{compare_codes, kept_codes, sum_codes};
@@ -21,8 +21,8 @@ use word::registers::{address_after, data, no_write, write_address, write_data};
 use word::word::{cut, merged, plus, sign_extended};
 
 // LineB.cmp, of a long
-pub fn cmp(g: &mut [u32; 16], pc: u32, sr: u16, mem: &[u8], op: u32) -> Option<Effect>
-    ensures { after result g.new mem.now ≡ agreed result (cmp_of g.old pc sr (mapped mem.now) op) sr g.old (mapped mem.now) }
+pub fn cmp(g: &mut [u32; 16], pc: u32, sr: &mut u16, mem: &[u8], op: u32) -> Option<u32>
+    ensures { after result sr.new g.new mem.now ≡ agreed result (cmp_of g.old pc sr.old (mapped mem.now) op) sr.old g.old (mapped mem.now) }
 {
     if op / 64 % 4 != 2 {
         return None;
@@ -32,13 +32,13 @@ pub fn cmp(g: &mut [u32; 16], pc: u32, sr: u16, mem: &[u8], op: u32) -> Option<E
     changed(
         g,
         sr,
-        done(from.next, compare_codes(sr, r), from.moved, no_write()),
+        done(from.next, compare_codes(*sr, r), from.moved, no_write()),
     )
 }
 
 // LineB.cmpa Long
-pub fn cmpa(g: &mut [u32; 16], pc: u32, sr: u16, mem: &[u8], op: u32) -> Option<Effect>
-    ensures { after result g.new mem.now ≡ agreed result (cmpa_of Long g.old pc sr (mapped mem.now) op) sr g.old (mapped mem.now) }
+pub fn cmpa(g: &mut [u32; 16], pc: u32, sr: &mut u16, mem: &[u8], op: u32) -> Option<u32>
+    ensures { after result sr.new g.new mem.now ≡ agreed result (cmpa_of Long g.old pc sr.old (mapped mem.now) op) sr.old g.old (mapped mem.now) }
 {
     let from = read_long(&*g, mem, plus(pc, 2), op)?;
     let old = address_after(&*g, from.moved, op / 512 % 8);
@@ -46,7 +46,7 @@ pub fn cmpa(g: &mut [u32; 16], pc: u32, sr: u16, mem: &[u8], op: u32) -> Option<
     changed(
         g,
         sr,
-        done(from.next, compare_codes(sr, r), from.moved, no_write()),
+        done(from.next, compare_codes(*sr, r), from.moved, no_write()),
     )
 }
 
@@ -55,11 +55,11 @@ pub fn cmpa(g: &mut [u32; 16], pc: u32, sr: u16, mem: &[u8], op: u32) -> Option<
 pub fn add_to_data<const ADD: bool>(
     g: &mut [u32; 16],
     pc: u32,
-    sr: u16,
+    sr: &mut u16,
     mem: &[u8],
     op: u32,
-) -> Option<Effect>
-    ensures { after result g.new mem.now ≡ agreed result (add_to_data ADD g.old pc (mapped mem.now) op) sr g.old (mapped mem.now) }
+) -> Option<u32>
+    ensures { after result sr.new g.new mem.now ≡ agreed result (add_to_data ADD g.old pc (mapped mem.now) op) sr.old g.old (mapped mem.now) }
 {
     if op / 64 % 4 != 2 {
         return None;
@@ -85,15 +85,15 @@ pub fn add_to_data<const ADD: bool>(
 pub fn adda<const ADD: bool>(
     g: &mut [u32; 16],
     pc: u32,
-    sr: u16,
+    sr: &mut u16,
     mem: &[u8],
     op: u32,
-) -> Option<Effect>
-    ensures { after result g.new mem.now ≡ agreed result (adda_of ADD Long g.old pc sr (mapped mem.now) op) sr g.old (mapped mem.now) }
+) -> Option<u32>
+    ensures { after result sr.new g.new mem.now ≡ agreed result (adda_of ADD Long g.old pc sr.old (mapped mem.now) op) sr.old g.old (mapped mem.now) }
 {
     let from = read_long(&*g, mem, plus(pc, 2), op)?;
     let old = address_after(&*g, from.moved, op / 512 % 8);
-    let codes = kept_codes(sr);
+    let codes = kept_codes(*sr);
     let whole = more_or_less(ADD, old, sign_extended(Size::Long, from.value));
     changed(
         g,
@@ -108,8 +108,8 @@ pub fn adda<const ADD: bool>(
 }
 
 // Line5.addq, of a long in Dn
-pub fn addq(g: &mut [u32; 16], pc: u32, sr: u16, op: u32) -> Option<Effect>
-    ensures { (m : Memory) → after result g.new (storage_of m) ≡ agreed result (addq_of g.old pc m op) sr g.old m }
+pub fn addq(g: &mut [u32; 16], pc: u32, sr: &mut u16, op: u32) -> Option<u32>
+    ensures { (m : Memory) → after result sr.new g.new (storage_of m) ≡ agreed result (addq_of g.old pc m op) sr.old g.old m }
 {
     if op / 8 % 8 != 0 || op / 64 % 4 != 2 {
         return None;
@@ -127,12 +127,12 @@ pub fn addq(g: &mut [u32; 16], pc: u32, sr: u16, op: u32) -> Option<Effect>
 }
 
 // Line0.cmpi Long
-pub fn cmpi(g: &mut [u32; 16], pc: u32, sr: u16, mem: &[u8], op: u32) -> Option<Effect>
-    ensures { after result g.new mem.now ≡ agreed result (cmpi_of Long g.old pc sr (mapped mem.now) op) sr g.old (mapped mem.now) }
+pub fn cmpi(g: &mut [u32; 16], pc: u32, sr: &mut u16, mem: &[u8], op: u32) -> Option<u32>
+    ensures { after result sr.new g.new mem.now ≡ agreed result (cmpi_of Long g.old pc sr.old (mapped mem.now) op) sr.old g.old (mapped mem.now) }
 {
     let at = plus(pc, 2);
     let v = load(mem, at, Size::Long).ok()?;
     let r = long_sum(false, cut(Size::Long, v), data(&*g, op % 8));
     let none = no_write();
-    changed(g, sr, done(plus(at, 4), compare_codes(sr, r), none, none))
+    changed(g, sr, done(plus(at, 4), compare_codes(*sr, r), none, none))
 }
