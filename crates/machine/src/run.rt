@@ -67,20 +67,11 @@ fn advanced(top: &[u8], given: Cpu, mem: &mut [u8], budget: u32) -> Progress
             }
         };
         let row = row_by(top, op);
-        if let Some(next) = in_place(row, &mut g, pc, &mut sr, mem, op) {
-            pc = next;
-            vector = 0;
-            n += 1;
-            continue;
-        }
-        if let Some(next) = summed(row, &mut g, &mut acc, pc, &mut macsr, mask, &*mem, op) {
-            pc = next;
-            vector = 0;
-            n += 1;
-            continue;
-        }
         let other = rest.other;
-        if let Some(next) = plain(row, &mut g, pc, &mut sr, other, macsr, mask, &acc, mem, op) {
+        let done = in_place(row, &mut g, pc, &mut sr, mem, op)
+            .or_else(|| summed(row, &mut g, &mut acc, pc, &mut macsr, mask, &*mem, op))
+            .or_else(|| plain(row, &mut g, pc, &mut sr, other, macsr, mask, &acc, mem, op));
+        if let Some(next) = done {
             pc = next;
             vector = 0;
             n += 1;
