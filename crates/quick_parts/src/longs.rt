@@ -12,17 +12,18 @@ use word::word::{minus, plus};
 pub fn long_sum(add: bool, s: u32, d: u32) -> Sum
     ensures { result ≡ sum_or_difference add Long s d false }
 {
-    let value = if add { plus(s, d) } else { minus(d, s) };
-    let signs = if add {
-        (s ^ value) & (d ^ value)
+    let (value, signs, carry) = if add {
+        let sum = plus(s, d);
+        (sum, (s ^ sum) & (d ^ sum), sum < s)
     } else {
-        (s ^ d) & (value ^ d)
+        let difference = minus(d, s);
+        (difference, (s ^ d) & (difference ^ d), d < s)
     };
     Sum {
         value,
         negative: value >= 0x8000_0000,
         zero: value == 0,
         overflow: signs >= 0x8000_0000,
-        carry: if add { value < s } else { d < s },
+        carry,
     }
 }

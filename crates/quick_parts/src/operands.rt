@@ -1,11 +1,14 @@
 // Dn, An, (An), (An)+, -(An) and d16(An); of longs that are read, immediates too; of bytes and words that are read, d8(An,Xi) too.
+#![tactic(auto, unfolding(manual::specs::Address::control, manual::specs::Address::extension, manual::specs::Address::locate, manual::specs::Address::moved, manual::specs::Address::operand), using(crate::proofs::OperandLaws::register, crate::specs::Near::spot_controlled))]
+
 ghost use Rattle.std.specs.Prelude.{◌≡◌, List, ℕ, ◌+◌, ◌*◌, ◌/◌, ◌%◌};
-ghost use Rattle.manual.specs.Memory.{mapped, load as load_of};
+ghost use Rattle.manual.specs.Memory.{mapped};
+ghost use Rattle.manual.specs.declared.Source.{Source};
 ghost use Rattle.manual.specs.declared.Size.{Size};
 ghost use Rattle.manual.specs.declared.Size.TheVariants.{Long};
 ghost use Rattle.manual.specs.Registers.{address_of};
 ghost use Rattle.manual.specs.Address.{operand as operand_of, source as source_of};
-ghost use Rattle.quick_parts.specs.Near.{located, spotted, Readable, as_read, in_register, loaded, controlled, controlled_at};
+ghost use Rattle.quick_parts.specs.Near.{located, spotted, Readable, as_read, in_register, Loads, controlled, controlled_at};
 
 use super::{Reading, Spot};
 use address::operands::indexed;
@@ -40,7 +43,9 @@ pub fn spot(z: Size, mem: &[u8], pc: u32, mode: u32, r: u32, a: u32) -> Option<S
 fn readable(z: Size, g: &[u32; 16], mem: &[u8], pc: u32, op: u32) -> Option<Spot>
     ensures { Readable g.now (mapped mem.now) pc op z result }
 {
-    if op % 64 == 0x3C && matches!(z, Size::Long) {
+    if op % 64 == 0x3C
+        && let Size::Long = z
+    {
         return Some(Spot {
             at: pc,
             next: plus(pc, 4),
@@ -63,7 +68,7 @@ fn register(z: Size, g: &[u32; 16], pc: u32, op: u32) -> Reading
 
 // What is read at a spot; none where that is not inside.
 fn read_at(z: Size, mem: &[u8], spot: Spot) -> Option<Reading>
-    ensures { result ≡ loaded spot (load_of (mapped mem.now) spot.at z) }
+    ensures { (t : Source) → Loads (mapped mem.now) z spot t → as_read result t ≡ t }
 {
     let Spot { at, next, moved } = spot;
     let value = load(mem, at, z).ok()?;
