@@ -1,5 +1,5 @@
 // The calls that push a long on the stack and pop it, refusals first.
-#![tactic(auto)]
+#![tactic(auto, unfolding(manual::specs::Exceptions::pop32, manual::specs::Exceptions::push32))]
 
 ghost use Rattle.std.specs.Prelude.{◌≡◌};
 ghost use Rattle.manual.specs.Reply.{outcome};
