@@ -1,4 +1,5 @@
 // Line A: MAC and MSAC, with and without a load.
+#![tactic(auto, unfolding(instructions::specs::LineA::load_address, instructions::specs::LineA::load_moves, instructions::specs::LineA::mac, instructions::specs::LineA::mac_load, instructions::specs::LineA::mac_registers, instructions::specs::LineA::mac_with_load, instructions::specs::LineA::operand))]
 ghost use Rattle.std.specs.Prelude.{◌≡◌, ◌+◌, ◌*◌, ◌/◌, ◌%◌, ◌<◌};
 ghost use Rattle.manual.specs.Memory.{mapped};
 ghost use Rattle.instructions.specs.LineA.{operand as operand_of, accumulating as accumulating_of, mac_registers, load_moves, load_address, mac_load, mac_with_load, mac as mac_of};

@@ -1,4 +1,5 @@
 // Line A: moves to and from the EMAC, and MOV3Q.
+#![tactic(auto, unfolding(instructions::specs::LineA::mov3q, instructions::specs::LineA::move_acc_to_acc, instructions::specs::LineA::move_macsr_to_ccr, instructions::specs::LineA::move_to_emac, instructions::specs::LineA::move_to_general, instructions::specs::LineA::setting, instructions::specs::LineA::three_bits, instructions::specs::LineA::unassigned))]
 ghost use Rattle.std.specs.Prelude.{◌≡◌, ◌+◌, ◌*◌, ◌/◌, ◌%◌, ◌<◌};
 ghost use Rattle.manual.specs.Memory.{mapped};
 ghost use Rattle.instructions.specs.LineA.{move_macsr_to_ccr, move_to_general, move_acc_to_acc as move_acc_to_acc_of, setting as setting_of, move_to_emac, three_bits, mov3q as mov3q_of, unassigned as unassigned_of};
