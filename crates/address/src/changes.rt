@@ -1,4 +1,6 @@
 // The parts that an instruction's change is made of.
+#![tactic(auto, unfolding(manual::specs::Change::acting, manual::specs::Change::done, manual::specs::Change::enter, manual::specs::Change::enter_after, manual::specs::Change::illegal, manual::specs::Change::jump, manual::specs::Change::privilege, manual::specs::Change::push, manual::specs::Change::put, manual::specs::Change::put_to, manual::specs::Change::refuse, manual::specs::Change::refused, manual::specs::Change::store))]
+
 ghost use Rattle.std.specs.Prelude.{◌≡◌};
 ghost use Rattle.manual.specs.Change.{done as done_of, store as store_of, acting as acting_of, enter_after, enter as enter_of, illegal as illegal_of, privilege as privilege_of, refuse as refuse_of, refused as refused_of, jump as jump_of, push as push_of, put as put_of, put_to};
 ghost use Rattle.manual.specs.Reply.{fault_reply};

@@ -1,4 +1,6 @@
 // Operands: their extension words, where they are and what stands there.
+#![tactic(auto, unfolding(manual::specs::Address::control, manual::specs::Address::destination_of, manual::specs::Address::extension, manual::specs::Address::fetch, manual::specs::Address::immediate, manual::specs::Address::index, manual::specs::Address::indexed, manual::specs::Address::locate, manual::specs::Address::moved, manual::specs::Address::operand, manual::specs::Address::source, manual::specs::Address::value))]
+
 ghost use Rattle.std.specs.Prelude.{◌≡◌, ◌+◌, ◌-◌, ◌*◌, ◌/◌, ◌%◌, ◌^◌, ◌≤◌, ◌<◌};
 ghost use Rattle.manual.specs.Memory.{mapped};
 ghost use Rattle.manual.specs.Address.{operand as operand_of, extension as extension_of, index as index_of, indexed as indexed_of, immediate as immediate_of, locate as locate_of, moved as moved_of, fetch as fetch_of, value as value_of, reached as reached_of, control as control_of, source as source_of, destination as destination_of};
@@ -81,13 +83,7 @@ pub fn indexed(g: &[u32; 16], base: u32, w: u32) -> u32
 }
 
 // The place of an operand, or the fault of its extension words.
-pub fn locate(
-    g: &[u32; 16],
-    mem: &[u8],
-    pc: u32,
-    o: Operand,
-    z: Size,
-) -> Result<Place, Fault>
+pub fn locate(g: &[u32; 16], mem: &[u8], pc: u32, o: Operand, z: Size) -> Result<Place, Fault>
     ensures { result ≡ locate_of g.now (mapped mem.now) pc o z }
 {
     Ok(match o {
@@ -141,12 +137,7 @@ pub fn moved(g: &[u32; 16], o: Operand, z: Size) -> Write
 }
 
 // The value at a place, or the fault.
-pub fn fetch(
-    g: &[u32; 16],
-    mem: &[u8],
-    p: Result<Place, Fault>,
-    z: Size,
-) -> Result<u32, Fault>
+pub fn fetch(g: &[u32; 16], mem: &[u8], p: Result<Place, Fault>, z: Size) -> Result<u32, Fault>
     ensures { result ≡ fetch_of g.now (mapped mem.now) p z }
 {
     match p? {

@@ -1,4 +1,5 @@
 -- A signed quotient by the magnitudes, for each pair of signs: what each return of `by_magnitudes` asks. Assumes nothing.
+use Rattle.std.specs.Prelude.{Some, None}
 use mathlib.Core.Path.{◌≡◌, refl, sym, ap, ◌∙◌}
 use mathlib.Core.Bool.{true, false}
 use Prim.Native.Nat.{ℕ, zero, suc, ◌+◌, ◌-◌, ◌/◌, ◌%◌, ◌^◌, ◌≤◌, ◌<◌}
@@ -45,11 +46,11 @@ neg-fits (suc n) h = lt-ltb n 0x8000_0000 h
 nonzero : (b : ℕ) → 0 < b → eqb b 0 ≡ false
 nonzero b h = ne_eqb b 0 (λ e. omega (arith, e))
 
-result : (a b : ℕ) → 0 < b → (q r : ℤ) (x y : ℕ) → quot_z (signed Long a) (signed Long b) ≡ q → rem_z (signed Long a) (signed Long b) ≡ r
+fitting : (a b : ℕ) → 0 < b → (q r : ℤ) (x y : ℕ) → quot_z (signed Long a) (signed Long b) ≡ q → rem_z (signed Long a) (signed Long b) ≡ r
     → fits Long q ≡ true → mod_z q (2 ^ 32) ≡ x → mod_z r (2 ^ 32) ≡ y
-    → record { fits = true; quotient = x; remainder = y } ≡ signed_quotient a b
+    → Some (record { quotient = x; remainder = y }) ≡ signed_quotient a b
 unfolding signed_quotient
-result a b some q r x y eq er h ex ey = rw (nonzero b some, eq, er, h, ex, ey)
+fitting a b some q r x y eq er h ex ey = rw (nonzero b some, eq, er, h, ex, ey)
 
 pos_is : (v n : ℕ) → v < 0x8000_0000 → n ≡ nat_abs (signed Long v) → signed Long v ≡ pos n
 pos_is v n h e = long_pos v h ∙ ap pos (size_pos v h ∙ sym e)
@@ -66,26 +67,26 @@ module _ (a b n d : ℕ) (ha : a < 2 ^ 32) (hb : b < 2 ^ 32) (en : n ≡ nat_abs
   left = omega (arith, mod-le n d, size_most a ha)
 
   pub pos_pos : a < 0x8000_0000 → b < 0x8000_0000
-      → record { fits = true; quotient = n / d; remainder = n % d } ≡ signed_quotient a b
+      → Some (record { quotient = n / d; remainder = n % d }) ≡ signed_quotient a b
   pos_pos pa pb =
       let l : n / d < 0x8000_0000 = omega (arith, div-le_self n d, size_pos a pa) in
-      result a b some (pos (n / d)) (pos (n % d)) (n / d) (n % d) (rw (pos_is a n pa en, pos_is b d pb ed))
+      fitting a b some (pos (n / d)) (pos (n % d)) (n / d) (n % d) (rw (pos_is a n pa en, pos_is b d pb ed))
       (rw (pos_is a n pa en, pos_is b d pb ed)) (lt-ltb (n / d) 0x8000_0000 l) (mod-eq_of_lt (omega arith))
       (mod-eq_of_lt (omega (arith, left)))
 
   pub pos_neg : a < 0x8000_0000 → 0x8000_0000 ≤ b → (x : ℕ) → x ≡ minus 0 (n / d)
-      → record { fits = true; quotient = x; remainder = n % d } ≡ signed_quotient a b
+      → Some (record { quotient = x; remainder = n % d }) ≡ signed_quotient a b
   pos_neg pa nb x ex =
       let f = neg_size b d nb hb ed in
-      result a b some (neg_ℤ (pos (n / d))) (pos (n % d)) x (n % d) (rw (pos_is a n pa en, long-neg b nb hb, f))
+      fitting a b some (neg_ℤ (pos (n / d))) (pos (n % d)) x (n % d) (rw (pos_is a n pa en, long-neg b nb hb, f))
       (rw (pos_is a n pa en, long-neg b nb hb, f)) (neg-fits (n / d) few)
       (neg-long (n / d) (omega (arith, few)) ∙ sym ex) (mod-eq_of_lt (omega (arith, left)))
 
   pub neg_pos : 0x8000_0000 ≤ a → b < 0x8000_0000 → (x y : ℕ) → x ≡ minus 0 (n / d) → y ≡ minus 0 (n % d)
-      → record { fits = true; quotient = x; remainder = y } ≡ signed_quotient a b
+      → Some (record { quotient = x; remainder = y }) ≡ signed_quotient a b
   neg_pos na pb x y ex ey =
       let e = neg_size a n na ha en in
-      result a b some (neg_ℤ (pos (n / d))) (neg_ℤ (pos (n % d))) x y (rw (long-neg a na ha, pos_is b d pb ed, e))
+      fitting a b some (neg_ℤ (pos (n / d))) (neg_ℤ (pos (n % d))) x y (rw (long-neg a na ha, pos_is b d pb ed, e))
       (rw (long-neg a na ha, pos_is b d pb ed, e)) (neg-fits (n / d) few)
       (neg-long (n / d) (omega (arith, few)) ∙ sym ex) (neg-long (n % d) (omega (arith, left)) ∙ sym ey)
 
@@ -93,15 +94,15 @@ module _ (a b n d : ℕ) (ha : a < 2 ^ 32) (hb : b < 2 ^ 32) (en : n ≡ nat_abs
   both-neg na nb = rw (long-neg a na ha, long-neg b nb hb, neg_size a n na ha en, neg_size b d nb hb ed)
 
   pub neg-neg : 0x8000_0000 ≤ a → 0x8000_0000 ≤ b → n / d < 0x8000_0000 → (y : ℕ) → y ≡ minus 0 (n % d)
-      → record { fits = true; quotient = n / d; remainder = y } ≡ signed_quotient a b
+      → Some (record { quotient = n / d; remainder = y }) ≡ signed_quotient a b
   neg-neg na nb l y ey =
       let e = neg_size a n na ha en in
       let f = neg_size b d nb hb ed in
-      result a b some (pos (n / d)) (neg_ℤ (pos (n % d))) (n / d) y (both-neg na nb)
+      fitting a b some (pos (n / d)) (neg_ℤ (pos (n % d))) (n / d) y (both-neg na nb)
       (rw (long-neg a na ha, long-neg b nb hb, e, f)) (lt-ltb (n / d) 0x8000_0000 l) (mod-eq_of_lt (omega arith))
       (neg-long (n % d) (omega (arith, left)) ∙ sym ey)
 
   pub too_large : 0x8000_0000 ≤ a → 0x8000_0000 ≤ b → 0x8000_0000 ≤ n / d
-      → record { fits = false; quotient = 0; remainder = 0 } ≡ signed_quotient a b
+      → None ≡ signed_quotient a b
   unfolding signed_quotient
   too_large na nb l = rw (nonzero b some, both-neg na nb, le-ltb (n / d) 0x8000_0000 l)

@@ -1,4 +1,5 @@
 -- Quotients by a word, the signed one from that of longs: what the returns of `word_quotient` and `signed_word_quotient` ask. Assumes nothing.
+use Rattle.std.specs.Prelude.{Option, Some, None}
 use mathlib.Core.Path.{◌≡◌, refl, sym, ap, ◌∙◌}
 use mathlib.Core.Bool.{Bool, true, false, cond}
 use Prim.Native.Nat.{ℕ, ◌%◌, ◌^◌, ◌≤◌, ◌<◌}
@@ -10,26 +11,27 @@ use borrow.Author.Tests.{lt-ltb, le-ltb, ne_eqb}
 use Rattle.manual.specs.declared.Size.TheVariants.{Word, Long}
 use Rattle.manual.specs.declared.Quotient.{Quotient}
 use Rattle.manual.specs.Word.{signed, fits, mod_z, plus, cut, sign_extended}
-use Rattle.manual.specs.Divide.{no_quotient, signed_quotient, signed_word_quotient}
+use Rattle.manual.specs.Divide.{signed_quotient, signed_word_quotient}
 use Rattle.word.specs.TestLaws.{by-lt}
 use Rattle.word.specs.SignedLaws.{signed_pos, signed-neg}
 use Rattle.word.specs.WordLaws.{cut_below, extended_pos, extended-neg}
 use Rattle.arith.proofs.LongLaws.{long_pos, long-neg}
 
 -- by 0 there is no quotient, whether it is small or not
-pub either_way : (t : Bool) → no_quotient ≡ cond t no_quotient no_quotient
+pub either_way : (t : Bool) → None ≡ cond {A = Option Quotient} t None None
 either_way true = refl
 either_way false = refl
 
 -- a quotient and a remainder of longs as words, where the quotient is one
-abbrev low_words : Quotient → Quotient
+abbrev low_words : Quotient → Option Quotient
 low_words x =
     cond (ltb (plus x.quotient 0x8000) 0x1_0000)
-    (record { fits = true; quotient = x.quotient % 0x1_0000; remainder = x.remainder % 0x1_0000 })
-    no_quotient
+    (Some (record { quotient = x.quotient % 0x1_0000; remainder = x.remainder % 0x1_0000 }))
+    None
 
-abbrev pub narrowed : Quotient → Quotient
-narrowed x = cond x.fits (low_words x) no_quotient
+abbrev pub narrowed : Option Quotient → Option Quotient
+narrowed (Some x) = low_words x
+narrowed None = None
 
 -- ---- numbers
 
@@ -41,8 +43,8 @@ module _ (q r : ℤ) where
   -- of longs, as words; and of words
   abbrev Narrows : Type 0
   Narrows =
-      narrowed (cond (fits Long q) (record { fits = true; quotient = mod_z q (2 ^ 32); remainder = mod_z r (2 ^ 32) }) no_quotient)
-      ≡ cond (fits Word q) (record { fits = true; quotient = mod_z q 0x1_0000; remainder = mod_z r 0x1_0000 }) no_quotient
+      narrowed (cond (fits Long q) (Some (record { quotient = mod_z q (2 ^ 32); remainder = mod_z r (2 ^ 32) })) None)
+      ≡ cond (fits Word q) (Some (record { quotient = mod_z q 0x1_0000; remainder = mod_z r 0x1_0000 })) None
 
   -- n is q, or -1 - q where q is negative: it alone says which sizes q fits
   by_size : (n : ℕ) → fits Long q ≡ ltb n 0x8000_0000 → fits Word q ≡ ltb n 0x8000
@@ -74,7 +76,7 @@ zero_alike b = by-lt (cut Word b) 0x8000
     (λ l. ap (λ (v : ℕ). eqb v 0) (sym (extended_pos Word b l)))
     (λ l. ne_eqb (sign_extended Word b) 0 (λ z. omega (arith, extended-neg Word b l)) ∙ sym (ne_eqb (cut Word b) 0 (λ z. omega arith)))
 
-unless_zero : (t : Bool) (x y : Quotient) → narrowed x ≡ y → narrowed (cond t no_quotient x) ≡ cond t no_quotient y
+unless_zero : (t : Bool) (x y : Option Quotient) → narrowed x ≡ y → narrowed (cond t None x) ≡ cond t None y
 unless_zero true x y e = refl
 unless_zero false x y e = e
 

@@ -1,4 +1,5 @@
 // Quotients and remainders of longs by longs and by words.
+#![tactic(auto, unfolding(manual::specs::Divide::overflow_codes, manual::specs::Divide::quotient, manual::specs::Divide::signed_quotient, manual::specs::Divide::signed_word_quotient, manual::specs::Divide::word_quotient))]
 ghost use Rattle.std.specs.Prelude.{◌≡◌, ◌<◌, Some, nat_abs};
 ghost use Rattle.manual.specs.Word.{signed};
 ghost use Rattle.manual.specs.declared.Size.TheVariants.{Long};

@@ -6,10 +6,11 @@ use manual::Size;
 use word::word::sign_extended;
 
 // MULU.L.
+#[tactic(auto, unfolding(manual::specs::Multiply::long_product))]
 pub fn long_product(x: u32, y: u32) -> u32
     ensures { result ≡ long_product x y }
 {
-    ((x as u64) * (y as u64) % 0x1_0000_0000) as u32
+    x.wrapping_mul(y)
 }
 
 // MULS.L: the low half of a product is the same for signed numbers.

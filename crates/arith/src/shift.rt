@@ -35,23 +35,23 @@ pub fn signed_shifted_right(v: u32, n: u32) -> Shifted
     if v < 0x8000_0000 {
         return shifted_right(v, n);
     }
-    let w = (0xFFFF_FFFF - v) as u64;
+    let w = !v as u64;
     let k = n % 64;
     Shifted {
-        value: 0xFFFF_FFFF - ((w >> k) as u32),
+        value: !((w >> k) as u32),
         carry: (w * 2 + 1 >> k) % 2 == 0,
     }
 }
 
 // The flags of a shift; with count 0 X is kept and C is clear.
+#[tactic(auto, unfolding(manual::specs::Shift::shift_codes))]
 pub fn shift_codes(sr: u16, n: u32, s: Shifted) -> u32
     ensures { result ≡ shift_codes sr n s }
 {
-    let carry = s.carry;
-    let negative = 0x8000_0000 <= s.value;
-    let zero = s.value == 0;
+    let Shifted { value, carry } = s;
+    let negative = 0x8000_0000 <= value;
     if n == 0 {
-        return codes(sr / 16 % 2 == 1, negative, zero, false, false);
+        return codes(sr / 16 % 2 == 1, negative, value == 0, false, false);
     }
-    codes(carry, negative, zero, false, carry)
+    codes(carry, negative, value == 0, false, carry)
 }

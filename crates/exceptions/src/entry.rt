@@ -1,4 +1,5 @@
 // Entry of an exception, and return from it.
+#![tactic(auto, unfolding(manual::specs::Exceptions::entered, manual::specs::Exceptions::frame_long, manual::specs::Exceptions::handler_state, manual::specs::Exceptions::return_state, manual::specs::Exceptions::returned, manual::specs::Reply::refusal))]
 ghost use Rattle.std.specs.Prelude.{◌≡◌, ◌+◌, ◌*◌, ◌/◌, ◌%◌, ◌^◌};
 ghost use Rattle.manual.specs.Memory.{mapped};
 ghost use Rattle.manual.specs.Reply.{outcome, refusal as refusal_of, fault_reply};
@@ -17,7 +18,7 @@ pub fn refusal(given: Cpu, reply: Reply) -> Stepped
     ensures { result ≡ refusal_of given reply }
 {
     Stepped {
-        reply: reply,
+        reply,
         vector: 0,
         cpu: given,
     }
@@ -75,7 +76,7 @@ pub fn entered(given: Cpu, cpu: Cpu, level: Option<u8>, vector: u8, pc: u32, mem
     let next = handler_state(then, frame, handler);
     Stepped {
         reply: Reply::Done,
-        vector: vector,
+        vector,
         cpu: next,
     }
 }

@@ -1,16 +1,21 @@
 -- One register of a mask, in a loop's terms: registers n to 15 are to come.
 -- Assumes nothing.
 use Rattle.manual.specs.declared.Fault.{Fault}
-use Rattle.std.proofs.Common.{◌≡◌, ℕ, suc, ◌+◌, ◌-◌, ◌/◌, ◌%◌, ◌<◌, ◌≤◌, List, get_or, set, arith, eq-eqb, ne_eqb, Result, Ok, Err}
+use Rattle.std.proofs.Common.{◌≡◌, ℕ, suc, ◌+◌, ◌-◌, ◌/◌, ◌%◌, ◌<◌, ◌≤◌, List, get_or, set, arith, eq-eqb, ne_eqb, Result, Ok, Err, refl}
 use Rattle.manual.specs.declared.Size.TheVariants.{Long}
-use Rattle.manual.specs.declared.Fault.{Fault as Faults}
+use Rattle.std.specs.Result.{result_unwrap_or}
 use Rattle.manual.specs.Word.{plus}
 use Rattle.manual.specs.Registers.{general}
-use Rattle.manual.specs.Memory.{Memory, access, number_at, stored, access_many, stored_many, loaded_many}
+use Rattle.manual.specs.Memory.{Memory, access, number_in, number_at, stored, access_many, stored_many, loaded_many}
 
 pub general-below : (g : List ℕ) (n : ℕ) → n < 16 → general g n ≡ get_or g n 0
 unfolding general
 general-below g n h = let e : n % 16 ≡ n = omega arith in rw e
+
+-- the number that was read, or 0
+pub or_zero : (x : Result ℕ Fault) → result_unwrap_or x 0 ≡ number_in x
+or_zero (Ok v) = refl
+or_zero (Err x) = refl
 
 to_come : (n : ℕ) → n < 16 → 16 - n ≡ suc (16 - (n + 1))
 to_come n h = omega arith
@@ -21,7 +26,7 @@ module _ (n : ℕ) (h : n < 16) (m : Memory) (mask at : ℕ) where
   unfolding access_many
   access-on x p at' w t is i a e = rw a (rw (to_come n h, eq-eqb _ _ t, ← is, i) at e)
 
-  pub access-not : (x : Result ℕ Fault) (f : Faults) (w : Result Unit Fault) → mask % 2 ≡ 1 → x ≡ access m at 4 → x ≡ Err f → access_many (16 - n) m mask at ≡ w → Err f ≡ w
+  pub access-not : (x : Result ℕ Fault) (f : Fault) (w : Result Unit Fault) → mask % 2 ≡ 1 → x ≡ access m at 4 → x ≡ Err f → access_many (16 - n) m mask at ≡ w → Err f ≡ w
   unfolding access_many
   access-not x f w t is i e = rw (to_come n h, eq-eqb _ _ t, ← is, i) at e
 
@@ -49,7 +54,7 @@ module _ (n : ℕ) (h : n < 16) (m : Memory) (mask at : ℕ) where
 
 -- and after the last
 module _ (n : ℕ) (h : 16 ≤ n) (m : Memory) (mask at : ℕ) where
-  pub access-none : access_many (16 - n) m mask at ≡ (Ok tt)
+  pub access-none : access_many (16 - n) m mask at ≡ Ok tt
   unfolding access_many
   access-none = let e : 16 - n ≡ 0 = omega arith in rw e
 

@@ -1,12 +1,14 @@
 // Numbers in a lent memory, big-endian, at any address.
-#![tactic(auto)]
+#![tactic(auto, unfolding(manual::specs::Memory::access, manual::specs::Memory::load, manual::specs::Memory::store_at, manual::specs::Memory::stored, manual::specs::Memory::storing, manual::specs::Memory::value_at))]
 
 pub mod many;
 
 ghost use Rattle.std.specs.Prelude.{◌≡◌, ◌+◌, ◌*◌, ◌/◌, ◌%◌, ◌^◌, ◌<◌, ◌≤◌, length, slice_index, slice_set};
+ghost use Rattle.manual.specs.Word.{bytes as bytes_of};
 ghost use Rattle.manual.specs.Memory.{mapped, value_at, store_at, access as access_of, load as load_of, storing, stored};
 
 use manual::{Fault, Size};
+use word::word::bytes;
 
 fn byte_at(mem: &[u8], at: usize) -> u32
     requires { at < length mem.now }
@@ -65,20 +67,12 @@ pub fn access(mem: &[u8], a: u32, n: u32) -> Result<u32, Fault>
 pub fn load(mem: &[u8], a: u32, z: Size) -> Result<u32, Fault>
     ensures { result ≡ load_of (mapped mem.now) a z }
 {
-    match z {
-        Size::Byte => match access(mem, a, 1) {
-            Ok(at) => Ok(byte_at(mem, at as usize)),
-            Err(x) => Err(x),
-        },
-        Size::Word => match access(mem, a, 2) {
-            Ok(at) => Ok(word_at(mem, at as usize)),
-            Err(x) => Err(x),
-        },
-        Size::Long => match access(mem, a, 4) {
-            Ok(at) => Ok(inside_long(mem, at as usize)),
-            Err(x) => Err(x),
-        },
-    }
+    let at = access(mem, a, bytes(z))? as usize;
+    Ok(match z {
+        Size::Byte => byte_at(mem, at),
+        Size::Word => word_at(mem, at),
+        Size::Long => inside_long(mem, at),
+    })
 }
 
 fn store_word(mem: &mut [u8], at: usize, v: u32)
@@ -97,34 +91,24 @@ fn store_long(mem: &mut [u8], at: usize, v: u32)
     store_word(mem, at, v / 0x1_0000);
 }
 
+fn store_inside(mem: &mut [u8], at: usize, z: Size, v: u32)
+    requires { at + bytes_of z ≤ length mem.old }
+    ensures { mem.new ≡ store_at mem.old at (bytes_of z) v }
+{
+    match z {
+        Size::Byte => mem[at] = (v % 0x100) as u8,
+        Size::Word => store_word(mem, at, v),
+        Size::Long => store_long(mem, at, v),
+    }
+}
+
 // Stores the low bytes of v: all of them, or none and the fault.
 pub fn store(mem: &mut [u8], a: u32, z: Size, v: u32) -> Result<(), Fault>
     ensures { (result ≡ storing (mapped mem.old) a z) × (mem.new ≡ stored (mapped mem.old) a z v) }
 {
-    match z {
-        Size::Byte => match access(&*mem, a, 1) {
-            Ok(at) => {
-                let i = at as usize;
-                mem[i] = (v % 0x100) as u8;
-                Ok(())
-            }
-            Err(x) => Err(x),
-        },
-        Size::Word => match access(&*mem, a, 2) {
-            Ok(at) => {
-                store_word(mem, at as usize, v);
-                Ok(())
-            }
-            Err(x) => Err(x),
-        },
-        Size::Long => match access(&*mem, a, 4) {
-            Ok(at) => {
-                store_long(mem, at as usize, v);
-                Ok(())
-            }
-            Err(x) => Err(x),
-        },
-    }
+    let at = access(&*mem, a, bytes(z))? as usize;
+    store_inside(mem, at, z, v);
+    Ok(())
 }
 
 fn put_byte(mem: &mut [u8], at: usize, v: u32)

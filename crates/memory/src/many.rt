@@ -1,4 +1,5 @@
 // The registers of a mask, D0 lowest, as longs one after the other: MOVEM.
+#![tactic(auto, unfolding(manual::specs::Memory::access_many, manual::specs::Memory::loaded_many, manual::specs::Memory::stored_many))]
 ghost use Rattle.std.specs.Prelude.{◌≡◌, ◌+◌, ◌*◌, ◌/◌, ◌%◌, ◌^◌, ◌<◌, ◌≤◌};
 ghost use Rattle.manual.specs.declared.Size.TheVariants.{Long};
 ghost use Rattle.manual.specs.Word.{plus};
@@ -6,41 +7,21 @@ ghost use Rattle.manual.specs.Memory.{mapped, if_taken, number_at, access_many, 
 
 use crate::{access, load, store};
 use manual::{Fault, Size};
-
-fn next(at: u32) -> u32
-    ensures { result ≡ plus at 4 }
-{
-    std::num::wrapping_add_u32(at, 4)
-}
+use word::word::plus;
 
 fn access_many(mem: &[u8], given: u32, start: u32) -> Result<(), Fault>
     ensures { result ≡ access_many 16 (mapped mem.now) given start }
 {
     let mut mask = given;
     let mut at = start;
-    let mut n: usize = 0;
-    while n < 16 {
-        n += 1;
+    for n in 0..16usize {
         if mask % 2 == 1 {
-            if let Err(x) = access(mem, at, 4) {
-                return Err(x);
-            }
-            at = next(at);
-            mask = mask / 2;
-            continue;
+            access(mem, at, 4)?;
+            at = plus(at, 4);
         }
-        mask = mask / 2;
+        mask /= 2;
     }
     Ok(())
-}
-
-fn long_or_zero(mem: &[u8], a: u32) -> u32
-    ensures { result ≡ number_at (mapped mem.now) a Long }
-{
-    match load(mem, a, Size::Long) {
-        Ok(v) => v,
-        Err(_) => 0,
-    }
 }
 
 fn store_all(mem: &mut [u8], g: &[u32; 16], given: u32, start: u32)
@@ -48,18 +29,12 @@ fn store_all(mem: &mut [u8], g: &[u32; 16], given: u32, start: u32)
 {
     let mut mask = given;
     let mut at = start;
-    let mut n: usize = 0;
-    while n < 16 {
-        let done = n + 1;
+    for n in 0..16 {
         if mask % 2 == 1 {
-            store(mem, at, Size::Long, g[n]);
-            at = next(at);
-            mask = mask / 2;
-            n = done;
-            continue;
+            let _ = store(mem, at, Size::Long, g[n]);
+            at = plus(at, 4);
         }
-        mask = mask / 2;
-        n = done;
+        mask /= 2;
     }
 }
 
@@ -68,18 +43,12 @@ fn load_all(mem: &[u8], g: &mut [u32; 16], given: u32, start: u32)
 {
     let mut mask = given;
     let mut at = start;
-    let mut n: usize = 0;
-    while n < 16 {
-        let done = n + 1;
+    for n in 0..16 {
         if mask % 2 == 1 {
-            g[n] = long_or_zero(mem, at);
-            at = next(at);
-            mask = mask / 2;
-            n = done;
-            continue;
+            g[n] = load(mem, at, Size::Long).unwrap_or(0);
+            at = plus(at, 4);
         }
-        mask = mask / 2;
-        n = done;
+        mask /= 2;
     }
 }
 
@@ -87,24 +56,16 @@ fn load_all(mem: &[u8], g: &mut [u32; 16], given: u32, start: u32)
 pub fn store_many(mem: &mut [u8], g: &[u32; 16], mask: u32, a: u32) -> Result<(), Fault>
     ensures { (result ≡ access_many 16 (mapped mem.old) mask a) × (mem.new ≡ if_taken result (stored_many 16 g.now 0 mask a (mapped mem.old)) mem.old) }
 {
-    match access_many(&*mem, mask, a) {
-        Ok(()) => {
-            store_all(mem, g, mask, a);
-            Ok(())
-        }
-        Err(x) => Err(x),
-    }
+    access_many(&*mem, mask, a)?;
+    store_all(mem, g, mask, a);
+    Ok(())
 }
 
 // Loads all of the registers, or none and the first fault.
 pub fn load_many(mem: &[u8], g: &mut [u32; 16], mask: u32, a: u32) -> Result<(), Fault>
     ensures { (result ≡ access_many 16 (mapped mem.now) mask a) × (g.new ≡ if_taken result (loaded_many 16 (mapped mem.now) 0 mask a g.old) g.old) }
 {
-    match access_many(mem, mask, a) {
-        Ok(()) => {
-            load_all(mem, g, mask, a);
-            Ok(())
-        }
-        Err(x) => Err(x),
-    }
+    access_many(mem, mask, a)?;
+    load_all(mem, g, mask, a);
+    Ok(())
 }

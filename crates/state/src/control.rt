@@ -1,4 +1,6 @@
 // The control registers: which one a number names, and what MOVEC moves to or from it.
+#![tactic(auto, unfolding(manual::specs::Control::control_moved, manual::specs::Control::control_register, manual::specs::Control::movec_read, manual::specs::Control::movec_write, manual::specs::Registers::with_cacr, manual::specs::Registers::with_vbr))]
+
 ghost use Rattle.std.specs.Prelude.{◌≡◌, ◌+◌, ◌*◌, ◌/◌, ◌%◌};
 ghost use Rattle.manual.specs.Control.{control_register, movec_read, movec_write, control_moved};
 
@@ -9,13 +11,11 @@ use word::registers::{general, with_registers, write, write_general};
 pub fn control_register(number: u32) -> Option<ControlRegister>
     ensures { result ≡ control_register number }
 {
-    if number == 0x002 {
-        return Some(ControlRegister::Cacr);
+    match number {
+        0x002 => Some(ControlRegister::Cacr),
+        0x801 => Some(ControlRegister::Vbr),
+        _ => None,
     }
-    if number == 0x801 {
-        return Some(ControlRegister::Vbr);
-    }
-    None
 }
 
 fn movec_read(cpu: Cpu, from: ControlRegister) -> u32
@@ -30,16 +30,12 @@ fn movec_read(cpu: Cpu, from: ControlRegister) -> u32
 fn movec_write(cpu: Cpu, to: ControlRegister, v: u32) -> Cpu
     ensures { result ≡ movec_write to v cpu }
 {
-    let mut next = cpu;
     match to {
-        ControlRegister::Cacr => {
-            next.cacr = v;
-            next
-        }
-        ControlRegister::Vbr => {
-            next.vbr = v / 0x10_0000 * 0x10_0000;
-            next
-        }
+        ControlRegister::Cacr => Cpu { cacr: v, ..cpu },
+        ControlRegister::Vbr => Cpu {
+            vbr: v / 0x10_0000 * 0x10_0000,
+            ..cpu
+        },
     }
 }
 

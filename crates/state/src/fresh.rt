@@ -1,4 +1,6 @@
 // The fresh state: what a core starts with, and what a refused read of a block or of an image file answers.
+#![tactic(auto, unfolding(manual::specs::Block::fresh))]
+
 ghost use Rattle.std.specs.Prelude.{◌≡◌};
 ghost use Rattle.manual.specs.Block.{fresh as fresh_of};
 

@@ -8,25 +8,14 @@ use manual::{Fault, Reply};
 pub fn number_of(reply: Reply) -> u32
     ensures { (result ≡ number_of reply) × (result < 10) }
 {
-    match reply {
-        Reply::Done => 0,
-        Reply::TooLong => 1,
-        Reply::NotAdmitted => 2,
-        Reply::Stopped => 3,
-        Reply::NotInside => 4,
-        Reply::NotCarried => 5,
-        Reply::OutOfRange => 6,
-        Reply::Masked => 7,
-        Reply::WrongVersion => 8,
-        Reply::WrongLength => 9,
-    }
+    reply as u32
 }
 
 // Whether the call was done.
 pub fn is_done(reply: Reply) -> bool
     ensures { result ≡ is_done reply }
 {
-    number_of(reply) == 0
+    matches!(reply, Reply::Done)
 }
 
 // The reply to an access that memory does not take.

@@ -1,4 +1,6 @@
 // The status register, and the states that a call takes.
+#![tactic(auto, unfolding(manual::specs::Admitted::admitted, manual::specs::Admitted::emac_admitted, manual::specs::Admitted::status, manual::specs::Emac::acc_of, manual::specs::Exceptions::handler_sr, manual::specs::Exceptions::set_sr, manual::specs::Lent::first_refusal, manual::specs::Lent::lent_refusal, manual::specs::Lent::state_refusal))]
+
 ghost use Rattle.std.specs.Prelude.{◌≡◌, ◌+◌, ◌*◌, ◌/◌, ◌%◌, ◌^◌};
 ghost use Rattle.manual.specs.Admitted.{status as status_of, emac_admitted, admitted as admitted_of};
 ghost use Rattle.manual.specs.Lent.{lent, lent_refusal, first_refusal};
@@ -6,7 +8,6 @@ ghost use Rattle.manual.specs.Exceptions.{set_sr, handler_sr as handler_sr_of};
 
 use super::replies::is_done;
 use manual::{Cpu, Emac, Reply};
-use word::flags::{both, same};
 use word::registers::{address, with_address, with_other, with_sr};
 
 // Memory has at most 16,777,216 bytes.
@@ -70,8 +71,8 @@ pub fn with_status(cpu: Cpu, v: u32) -> Cpu
 {
     let sr = status(v);
     let two = cpu.cacr / 0x20 % 2 == 1;
-    let kept = same(sr / 0x2000 % 2 == 1, cpu.sr / 0x2000 % 2 == 1);
-    if both(two, !kept) {
+    let kept = (sr / 0x2000 % 2 == 1) == (cpu.sr / 0x2000 % 2 == 1);
+    if two & !kept {
         let g = cpu.r;
         let sp = address(&g, 7);
         return with_sr(with_other(with_address(cpu, 7, cpu.other), sp), sr);

@@ -1,4 +1,6 @@
 // AND, OR, EOR, single bits, and the order of bits and bytes.
+#![tactic(auto, unfolding(crate::specs::SwapLaws::low_fields, crate::specs::SwapLaws::swapped, manual::specs::Bits::logic, manual::specs::Bits::reversed_bits, manual::specs::Bits::reversed_bytes, manual::specs::Bits::with_bit))]
+
 ghost use Rattle.std.specs.Prelude.{◌≡◌, ◌%◌};
 ghost use Rattle.manual.specs.Bits.{logic as logic_of, bit_of, with_bit, reversed_bits, reversed_bytes};
 

@@ -1,8 +1,8 @@
 // The conditions of Bcc and Scc.
+#![tactic(auto, unfolding(manual::specs::Conditions::condition))]
+
 ghost use Rattle.std.specs.Prelude.{◌≡◌, ◌%◌};
 ghost use Rattle.manual.specs.Conditions.{condition as condition_of};
-
-use super::flags::{both, either, same};
 
 // Whether condition n of Bcc and Scc holds in a status register.
 pub fn condition(number: u32, sr: u16) -> bool
@@ -15,8 +15,8 @@ pub fn condition(number: u32, sr: u16) -> bool
     match number % 16 {
         0 => true,
         1 => false,
-        2 => both(!c, !z),
-        3 => either(c, z),
+        2 => !c & !z,
+        3 => c | z,
         4 => !c,
         5 => c,
         6 => !z,
@@ -25,9 +25,9 @@ pub fn condition(number: u32, sr: u16) -> bool
         9 => v,
         10 => !n,
         11 => n,
-        12 => same(n, v),
-        13 => !same(n, v),
-        14 => both(!z, same(n, v)),
-        _ => either(z, !same(n, v)),
+        12 => n == v,
+        13 => n != v,
+        14 => !z & (n == v),
+        _ => z | (n != v),
     }
 }

@@ -1,4 +1,6 @@
 // The condition codes, and the sums and differences that set them.
+#![tactic(auto, unfolding(manual::specs::Flags::added, manual::specs::Flags::codes, manual::specs::Flags::compare_codes, manual::specs::Flags::extended_codes, manual::specs::Flags::kept_codes, manual::specs::Flags::move_codes, manual::specs::Flags::subtracted, manual::specs::Flags::sum_codes, manual::specs::Flags::sum_or_difference, manual::specs::Flags::test_codes))]
+
 ghost use Rattle.std.specs.Prelude.{◌≡◌, ◌+◌, ◌*◌, ◌%◌, ◌^◌, ◌<◌, ◌≤◌, ◌&&◌, ◌||◌};
 ghost use Rattle.std.specs.Bool.{beq};
 ghost use Rattle.manual.specs.Word.{bit as bit_of};
@@ -12,31 +14,11 @@ use manual::{Size, Sum};
 pub fn bit(b: bool) -> u32
     ensures { result ≡ bit_of b }
 {
-    if b { 1 } else { 0 }
-}
-
-// Whether both hold.
-pub fn both(a: bool, b: bool) -> bool
-    ensures { result ≡ (a && b) }
-{
-    if a { b } else { false }
-}
-
-pub(crate) fn either(a: bool, b: bool) -> bool
-    ensures { result ≡ (a || b) }
-{
-    if a { true } else { b }
-}
-
-// Whether both hold or neither does.
-pub fn same(a: bool, b: bool) -> bool
-    ensures { result ≡ beq a b }
-{
-    if a { b } else { !b }
+    b as u32
 }
 
 // A flag of a weight.
-fn weighed(b: bool, w: u32) -> u32
+pub fn weighed(b: bool, w: u32) -> u32
     ensures { (result ≡ bit_of b * w) × (result ≤ w) }
 {
     if b { w } else { 0 }
@@ -81,13 +63,13 @@ fn added(z: Size, s: u32, d: u32, x: bool) -> Sum
     let b = cut(z, d) as u64;
     let total = a + b + bit(x) as u64;
     let value = wrapped(total, n);
-    let signs = same(h <= a, h <= b);
-    let turned = same(h <= value, h <= b);
+    let signs = (h <= a) == (h <= b);
+    let turned = (h <= value) == (h <= b);
     Sum {
         value: value as u32,
         negative: h <= value,
         zero: value == 0,
-        overflow: both(signs, !turned),
+        overflow: signs & !turned,
         carry: n <= total,
     }
 }
@@ -103,13 +85,13 @@ pub fn subtracted(z: Size, s: u32, d: u32, x: bool) -> Sum
     let b = cut(z, d) as u64;
     let taken = a + bit(x) as u64;
     let value = wrapped(b + n - taken, n);
-    let signs = same(h <= a, h <= b);
-    let turned = same(h <= value, h <= b);
+    let signs = (h <= a) == (h <= b);
+    let turned = (h <= value) == (h <= b);
     Sum {
         value: value as u32,
         negative: h <= value,
         zero: value == 0,
-        overflow: both(!signs, !turned),
+        overflow: !signs & !turned,
         carry: b < taken,
     }
 }
@@ -143,7 +125,7 @@ pub fn compare_codes(sr: u16, r: Sum) -> u32
 pub fn extended_codes(sr: u16, r: Sum) -> u32
     ensures { result ≡ extended_codes sr r }
 {
-    let zero = both(r.zero, sr / 4 % 2 == 1);
+    let zero = r.zero & (sr / 4 % 2 == 1);
     codes(r.carry, r.negative, zero, r.overflow, r.carry)
 }
 

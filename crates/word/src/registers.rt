@@ -1,4 +1,6 @@
 // The registers by number, register writes, and the state with a part replaced.
+#![tactic(auto, unfolding(manual::specs::Registers::address_of, manual::specs::Registers::applied, manual::specs::Registers::coded, manual::specs::Registers::data_of, manual::specs::Registers::general, manual::specs::Registers::no_write, manual::specs::Registers::with_address, manual::specs::Registers::with_emac, manual::specs::Registers::with_other, manual::specs::Registers::with_parts, manual::specs::Registers::with_pc, manual::specs::Registers::with_registers, manual::specs::Registers::with_sr, manual::specs::Registers::with_stopped, manual::specs::Registers::write_address, manual::specs::Registers::write_data, manual::specs::Registers::write_general, manual::specs::Registers::written))]
+
 ghost use Rattle.std.specs.Prelude.{◌≡◌, ◌+◌, ◌-◌, ◌*◌, ◌/◌, ◌%◌, ◌^◌, ◌<◌, ◌≤◌};
 ghost use Rattle.manual.specs.Registers.{data_of, address_of, general as general_of, no_write, write_data, write_address, write_general, written as written_of, with_parts, with_registers, with_address, with_pc, with_sr, with_other, with_emac, with_stopped, coded as coded_of, applied as applied_of};
 
@@ -91,21 +93,20 @@ pub fn address_after(g: &[u32; 16], w: Write, r: u32) -> u32
 pub fn with_parts(cpu: Cpu, g: [u32; 16], pc: u32, sr: u16, emac: Emac) -> Cpu
     ensures { result ≡ with_parts g pc sr emac cpu }
 {
-    let mut next = cpu;
-    next.r = g;
-    next.pc = pc;
-    next.sr = sr;
-    next.emac = emac;
-    next
+    Cpu {
+        r: g,
+        pc,
+        sr,
+        emac,
+        ..cpu
+    }
 }
 
 // The state with the registers replaced.
 pub fn with_registers(cpu: Cpu, g: [u32; 16]) -> Cpu
     ensures { result ≡ with_registers g cpu }
 {
-    let mut next = cpu;
-    next.r = g;
-    next
+    Cpu { r: g, ..cpu }
 }
 
 // The state with An replaced.
@@ -122,45 +123,35 @@ pub fn with_address(cpu: Cpu, n: u32, v: u32) -> Cpu
 pub fn with_pc(cpu: Cpu, pc: u32) -> Cpu
     ensures { result ≡ with_pc pc cpu }
 {
-    let mut next = cpu;
-    next.pc = pc;
-    next
+    Cpu { pc, ..cpu }
 }
 
 // The state with the status register replaced, and no swap.
 pub fn with_sr(cpu: Cpu, sr: u16) -> Cpu
     ensures { result ≡ with_sr sr cpu }
 {
-    let mut next = cpu;
-    next.sr = sr;
-    next
+    Cpu { sr, ..cpu }
 }
 
 // The state with the other stack pointer replaced.
 pub fn with_other(cpu: Cpu, v: u32) -> Cpu
     ensures { result ≡ with_other v cpu }
 {
-    let mut next = cpu;
-    next.other = v;
-    next
+    Cpu { other: v, ..cpu }
 }
 
 // The state with the unit replaced.
 pub fn with_emac(cpu: Cpu, emac: Emac) -> Cpu
     ensures { result ≡ with_emac emac cpu }
 {
-    let mut next = cpu;
-    next.emac = emac;
-    next
+    Cpu { emac, ..cpu }
 }
 
 // The state stopped, or not.
 pub fn with_stopped(cpu: Cpu, stopped: bool) -> Cpu
     ensures { result ≡ with_stopped stopped cpu }
 {
-    let mut next = cpu;
-    next.stopped = stopped;
-    next
+    Cpu { stopped, ..cpu }
 }
 
 // A status register with its flags replaced.

@@ -1,4 +1,6 @@
 // Numbers of 8, 16 and 32 bits.
+#![tactic(auto, unfolding(manual::specs::Word::cut, manual::specs::Word::merged, manual::specs::Word::minus, manual::specs::Word::plus, manual::specs::Word::sign_extended, manual::specs::Word::size_of))]
+
 ghost use Rattle.std.specs.Prelude.{◌≡◌, ◌%◌};
 ghost use Rattle.manual.specs.Fields.{byte_or_word};
 ghost use Rattle.manual.specs.Word.{bytes as bytes_of, half as half_of, numbers as numbers_of, size_of, cut as cut_of, merged as merged_of, plus as plus_of, minus as minus_of, sign_extended};
@@ -84,14 +86,14 @@ pub fn merged(z: Size, old: u32, v: u32) -> u32
 pub fn plus(a: u32, b: u32) -> u32
     ensures { result ≡ plus_of a b }
 {
-    std::num::wrapping_add_u32(a, b)
+    a.wrapping_add(b)
 }
 
 // A difference of longs, wrapped.
 pub fn minus(a: u32, b: u32) -> u32
     ensures { result ≡ minus_of a b }
 {
-    std::num::wrapping_sub_u32(a, b)
+    a.wrapping_sub(b)
 }
 
 // The low part of a long, as a signed long.

@@ -38,6 +38,5 @@ returns-then-q-lt2147483648 c =
 
 pub returns : goal.returns
 returns c =
-    c.no_quotient.ensures
-    ∙ too_large c.args.a c.args.b _ _ c.ranges.a.fits c.ranges.b.fits c.magnitude-n.ensures c.magnitude-d.ensures c.requires
+    too_large c.args.a c.args.b _ _ c.ranges.a.fits c.ranges.b.fits c.magnitude-n.ensures c.magnitude-d.ensures c.requires
     c.if-a-lt2147483648.false c.if-b-lt2147483648-2.false c.if-q-lt2147483648.false

@@ -14,8 +14,5 @@ returns-then-v-lt2147483648 c =
 pub overflow_cast-result-2 : goal.overflow_cast-result-2
 overflow_cast-result-2 c = let x = c.args in omega (arith, div-le_self (0xFFFF_FFFF - x.v) (2 ^ (x.n % 64)))
 
-pub overflow_sub-result : goal.overflow_sub-result
-overflow_sub-result c = let x = c.args in omega (arith, div-le_self (0xFFFF_FFFF - x.v) (2 ^ (x.n % 64)))
-
 pub returns : goal.returns
 returns c = right_neg c.args.v (c.args.n % 64) c.if-v-lt2147483648.false c.ranges.v.fits

@@ -5,6 +5,3 @@ use Rattle.memory.proofs.many.access_many.Given as goal
 
 abbrev pub invariant-loop-n : goal.invariant-loop-n
 invariant-loop-n l = (l.n ≤ 16) × (access_many (16 - l.n) l.mem l.mask l.at ≡ access_many 16 l.mem l.given l.start)
-
-abbrev pub decreases-loop-n : goal.decreases-loop-n
-decreases-loop-n l = 16 - l.n

@@ -6,6 +6,3 @@ use Rattle.memory.proofs.many.load_all.Given as goal
 abbrev pub invariant-loop-n : goal.invariant-loop-n
 invariant-loop-n l =
     (l.n ≤ 16) × (loaded_many (16 - l.n) l.mem l.n l.mask l.at l.g ≡ loaded_many 16 l.mem 0 l.given l.start l.initial.g)
-
-abbrev pub decreases-loop-n : goal.decreases-loop-n
-decreases-loop-n l = 16 - l.n

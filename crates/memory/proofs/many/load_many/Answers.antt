@@ -1,9 +1,8 @@
 -- `memory::many::load_many` meets its contract. Assumes nothing.
-use Rattle.std.proofs.Common.{sym, refl, ◌∙◌}
+use Rattle.std.proofs.Common.{◌≡◌, Err, ◌∙◌, sym, refl, rules}
 use Rattle.memory.proofs.many.load_many.Goals as goal
 
-pub returns-in-Done : goal.returns-in-Done
-returns-in-Done c = (sym c.in-Done.is ∙ c.access_many.ensures, c.load_all.ensures)
-
-pub returns-in-Err : goal.returns-in-Err
-returns-in-Err c = (sym c.in-Err.is ∙ c.access_many.ensures, refl)
+pub returns-in_err-access_many : goal.returns-in_err-access_many
+returns-in_err-access_many c =
+    let e : c.from_residual.result ≡ Err c.in_err-access_many.field-0.0 = search rules in
+    rw e (c.in_err-access_many.ensures, refl)
