@@ -1,6 +1,5 @@
 -- A change that was done in place is what the definition's step does. Assumes nothing.
 use Rattle.std.specs.Prelude.{ℕ, ◌≡◌, List, Result, Ok, Err}
-use Rattle.std.proofs.Common.{arith}
 use Rattle.std.proofs.Math.Path.{ap}
 use Rattle.manual.specs.declared.Fault.{Fault}
 use Rattle.manual.specs.declared.Cpu.{Cpu}
@@ -16,9 +15,7 @@ use Rattle.quick_parts.specs.declared.inplace.Effect.TheVariants.{Done, Left}
 use Rattle.quick_parts.specs.Effects.{After, after, where_taken, acted, in_place}
 
 clash : (pc sr : ℕ) (g : List ℕ) (m : Memory) (g' : List ℕ) (m' : Storage) → after (Done pc sr) g' m' ≡ after Left g m → ⊥
-clash pc sr g m g' m' h =
-    let q : Done pc sr ≡ Left = ap (λ (a : After). a.effect) h in
-    let z : ◌≡◌ {A = ℕ} 0 1 = cc in omega arith
+clash pc sr g m g' m' h = let q : Done pc sr ≡ Left = ap (λ (a : After). a.effect) h in cc
 
 module _ (g : List ℕ) (pc sr : ℕ) (e : Emac) (rest : Cpu) (m : Memory) (c : Change) (pc' sr' : ℕ) (g' : List ℕ) (m' : Storage) where
   abbrev state : Cpu
