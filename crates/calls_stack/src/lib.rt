@@ -41,9 +41,9 @@ fn not_popped(cpu: Cpu, reply: Reply) -> Popped
     ensures { result ≡ not_popped cpu reply }
 {
     Popped {
-        reply: reply,
+        reply,
         value: 0,
-        cpu: cpu,
+        cpu,
     }
 }
 

@@ -22,11 +22,10 @@ fn bitrev(g: &[u32; 16], at: u32, sr: u16, op: u32) -> Change
 {
     let next = plus(at, 2);
     let codes = kept_codes(sr);
-    let none = no_write();
     done(
         next,
         codes,
-        none,
+        no_write(),
         write_data(op % 8, reversed_bits(data(g, op % 8))),
     )
 }
@@ -36,11 +35,10 @@ fn byterev(g: &[u32; 16], at: u32, sr: u16, op: u32) -> Change
 {
     let next = plus(at, 2);
     let codes = kept_codes(sr);
-    let none = no_write();
     done(
         next,
         codes,
-        none,
+        no_write(),
         write_data(op % 8, reversed_bytes(data(g, op % 8))),
     )
 }
@@ -51,8 +49,12 @@ fn ff1(g: &[u32; 16], at: u32, sr: u16, op: u32) -> Change
     let v = data(g, op % 8);
     let next = plus(at, 2);
     let codes = move_codes(Size::Long, v, sr);
-    let none = no_write();
-    done(next, codes, none, write_data(op % 8, u32::leading_zeros(v)))
+    done(
+        next,
+        codes,
+        no_write(),
+        write_data(op % 8, u32::leading_zeros(v)),
+    )
 }
 
 // ANDI, ORI and EORI.
@@ -67,8 +69,7 @@ pub fn logic_immediate(l: Logic, g: &[u32; 16], at: u32, sr: u16, mem: &[u8], op
     let r = logic(l, data(g, op % 8), v);
     let next = plus(pc, 4);
     let codes = move_codes(Size::Long, r, sr);
-    let none = no_write();
-    done(next, codes, none, write_data(op % 8, r))
+    done(next, codes, no_write(), write_data(op % 8, r))
 }
 
 // ADDI and SUBI.
@@ -83,8 +84,7 @@ pub fn sum_immediate(add: bool, g: &[u32; 16], at: u32, mem: &[u8], op: u32) -> 
     let r = sum_or_difference(add, Size::Long, v, data(g, op % 8), false);
     let next = plus(pc, 4);
     let codes = sum_codes(r);
-    let none = no_write();
-    done(next, codes, none, write_data(op % 8, r.value))
+    done(next, codes, no_write(), write_data(op % 8, r.value))
 }
 
 fn cmpi(z: Size, g: &[u32; 16], at: u32, sr: u16, mem: &[u8], op: u32) -> Change
@@ -98,8 +98,7 @@ fn cmpi(z: Size, g: &[u32; 16], at: u32, sr: u16, mem: &[u8], op: u32) -> Change
     let next = plus(pc, extension(Operand::Immediate, z));
     let r = subtracted(z, v, data(g, op % 8), false);
     let codes = compare_codes(sr, r);
-    let none = no_write();
-    done(next, codes, none, none)
+    done(next, codes, no_write(), no_write())
 }
 
 // BTST, BCHG, BCLR and BSET of Dn.
@@ -109,11 +108,10 @@ pub fn bit_of_data(g: &[u32; 16], pc: u32, sr: u16, op: u32, n: u32) -> Change
     let v = data(g, op % 8);
     let was = bit_of(n, v);
     let codes = test_codes(sr, !was);
-    let none = no_write();
     done(
         pc,
         codes,
-        none,
+        no_write(),
         write_data(op % 8, changed_bit(op / 64, n, v)),
     )
 }
@@ -122,8 +120,7 @@ fn bit_of_byte(g: &[u32; 16], pc: u32, sr: u16, mem: &[u8], op: u32, n: u32) -> 
     ensures { result ≡ bit_of_byte g.now pc sr (mapped mem.now) op n }
 {
     let to = destination(g, mem, pc, op, Size::Byte);
-    let place = to.place;
-    let v = match fetch(g, mem, place, Size::Byte) {
+    let v = match fetch(g, mem, to.place, Size::Byte) {
         Ok(v) => v,
         Err(x) => return refused(x),
     };

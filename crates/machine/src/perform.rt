@@ -25,7 +25,7 @@ fn completed(cpu: Cpu) -> Stepped
     Stepped {
         reply: Reply::Done,
         vector: 0,
-        cpu: cpu,
+        cpu,
     }
 }
 

@@ -26,10 +26,10 @@ fn ended(reply: Reply, count: u32, vector: u8, cpu: Cpu) -> Progress
     ensures { result ≡ ended_as reply count vector cpu }
 {
     Progress {
-        reply: reply,
-        count: count,
-        vector: vector,
-        cpu: cpu,
+        reply,
+        count,
+        vector,
+        cpu,
     }
 }
 
@@ -43,9 +43,9 @@ fn assembled(rest: Cpu, g: [u32; 16], pc: u32, sr: u16, macsr: u32, mask: u32, a
         pc,
         sr,
         Emac {
-            macsr: macsr,
-            mask: mask,
-            acc: acc,
+            macsr,
+            mask,
+            acc,
         },
     )
 }
@@ -137,7 +137,7 @@ pub fn run(cpu: Cpu, mem: &mut [u8], budget: u32) -> Ran
         return Ran {
             reply: first,
             count: 0,
-            cpu: cpu,
+            cpu,
         };
     }
     let top = top_rows();
@@ -145,7 +145,7 @@ pub fn run(cpu: Cpu, mem: &mut [u8], budget: u32) -> Ran
     let reply = end.reply;
     let last = end.cpu;
     Ran {
-        reply: reply,
+        reply,
         count: end.count,
         cpu: last,
     }
@@ -165,7 +165,7 @@ pub fn step(cpu: Cpu, mem: &mut [u8]) -> Stepped
     let reply = end.reply;
     let last = end.cpu;
     Stepped {
-        reply: reply,
+        reply,
         vector: end.vector,
         cpu: last,
     }
