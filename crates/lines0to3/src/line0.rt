@@ -3,6 +3,10 @@
 
 ghost use Rattle.std.specs.Prelude.{◌≡◌, ◌+◌, ◌*◌, ◌/◌, ◌%◌, ◌<◌};
 ghost use Rattle.manual.specs.Memory.{mapped};
+ghost use Rattle.manual.specs.Word.{plus as plus_of};
+ghost use Rattle.manual.specs.Registers.{no_write, write_data as write_data_of};
+ghost use Rattle.manual.specs.Flags.{kept_codes as kept_codes_of};
+ghost use Rattle.manual.specs.Change.{done as done_of};
 ghost use Rattle.instructions.specs.Line0.{bitrev as bitrev_of, byterev as byterev_of, ff1 as ff1_of, logic_immediate, sum_immediate, cmpi as cmpi_of, bit_of_data, bit_of_byte, bit_operation, bit_by_register, bit_by_immediate, line0 as line0_of};
 
 use super::bits::changed_bit;
@@ -17,30 +21,28 @@ use word::flags::{
 use word::registers::{data, no_write, write_data};
 use word::word::plus;
 
+// A long into Dn, with the condition codes as they were.
+fn replaced(at: u32, sr: u16, op: u32, v: u32) -> Change
+    ensures { result ≡ done_of (plus_of at 2) (kept_codes_of sr) no_write (write_data_of (op % 8) v) }
+{
+    done(
+        plus(at, 2),
+        kept_codes(sr),
+        no_write(),
+        write_data(op % 8, v),
+    )
+}
+
 fn bitrev(g: &[u32; 16], at: u32, sr: u16, op: u32) -> Change
     ensures { result ≡ bitrev_of g.now at sr op }
 {
-    let next = plus(at, 2);
-    let codes = kept_codes(sr);
-    done(
-        next,
-        codes,
-        no_write(),
-        write_data(op % 8, reversed_bits(data(g, op % 8))),
-    )
+    replaced(at, sr, op, reversed_bits(data(g, op % 8)))
 }
 
 fn byterev(g: &[u32; 16], at: u32, sr: u16, op: u32) -> Change
     ensures { result ≡ byterev_of g.now at sr op }
 {
-    let next = plus(at, 2);
-    let codes = kept_codes(sr);
-    done(
-        next,
-        codes,
-        no_write(),
-        write_data(op % 8, reversed_bytes(data(g, op % 8))),
-    )
+    replaced(at, sr, op, reversed_bytes(data(g, op % 8)))
 }
 
 fn ff1(g: &[u32; 16], at: u32, sr: u16, op: u32) -> Change
