@@ -2,7 +2,7 @@
 #![tactic(auto)]
 
 // The answers to a text that is read and to a range that is written, each with its number.
-#[derive(Clone, Copy, PartialEq, Eq)]
+#[derive(Clone, Copy)]
 pub enum TextReply {
     Done = 0,
     TooLong = 1,

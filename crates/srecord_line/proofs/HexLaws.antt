@@ -3,7 +3,6 @@ use Rattle.std.proofs.Common.{◌≡◌, ℕ, zero, suc, ◌+◌, ◌-◌, ◌*�
 use Rattle.std.proofs.lemmas.Bool.Decides.{nat_tests}
 use Rattle.std.proofs.lemmas.List.{take_all, length-map, get_or-map, take-map, drop-map, map_more}
 use Rattle.std.proofs.lemmas.List.Edits.{sets, sets-eq, paste_none, paste_more, paste_all}
-use Rattle.std.proofs.lemmas.List.Elements.{All-nil, All-cons}
 use Rattle.std.proofs.lemmas.List.Folds.{list_all_more}
 use lib.Seq.{paste}
 use Rattle.std.specs.List.{list_all}
@@ -11,7 +10,7 @@ use Rattle.std.specs.Simd.{first_chunks}
 use Rattle.srecord.specs.Records.{worth, is_hex, unhexed, total}
 use Rattle.srecord.specs.Reading.{payload}
 use Rattle.srecord_line.specs.Lines.{fits_by}
-use Rattle.srecord_line.specs.Pairs.{is_pair, pair_value, values, ArePairs, scanned}
+use Rattle.srecord_line.specs.Pairs.{is_pair, pair_value, values, scanned}
 use Rattle.srecord_line.specs.RangeLaws.{total_append}
 
 pub one_range : (c : ℕ) → cond (leb 48 c && leb c 57) 1 0 + cond (leb 65 c && leb c 70) 1 0 + cond (leb 97 c && leb c 102) 1 0 ≡ cond (ltb (worth c) 16) 1 0
@@ -40,10 +39,6 @@ unfolding is_hex
 hex_odd [] h = absurd (omega arith)
 hex_odd (a ∷ []) h = refl
 hex_odd (a ∷ b ∷ t) h = let r = hex_odd t (omega arith) in rw r (grind (arith, nat_tests))
-
-pub are_pairs : (ps : List (List ℕ)) → list_all is_pair ps ≡ true → ArePairs ps
-are_pairs [] h = All-nil (λ p. is_pair p ≡ true)
-are_pairs (p ∷ ps) h = All-cons (λ p. is_pair p ≡ true) p ps (both (is_pair p) (list_all is_pair ps) h).0 (are_pairs ps (both (is_pair p) (list_all is_pair ps) h).1)
 
 -- ---- a scan: i pairs are read
 
@@ -91,11 +86,11 @@ module _ (t : List ℕ) (ps : List (List ℕ)) (q : ps ≡ first_chunks 2 (lengt
     right_all z = let q = all in grind (arith, nat_tests)
 
     pub scanned_right : (right ≡ 0 → ⊥) → (list_all is_pair (take i ps) ≡ true → sum ≡ total (values (take i ps)) % 256)
-        → ArePairs ps × (Some (values ps, sum) ≡ scanned t)
+        → Some (values ps, sum) ≡ scanned t
     scanned_right z s =
         let f = right_all z in
         let g = rw (take_all i ps l) at s in
-        (are_pairs ps f, rw (both_pairs.0, f, both_pairs.1, g f))
+        rw (both_pairs.0, f, both_pairs.1, g f)
 
 -- ---- a part, and storing
 

@@ -2,6 +2,8 @@
 use Rattle.std.specs.Prelude.{ℕ, ◌+◌, Bool, true, cond, ◌&&◌, List, eqb, leb, length, get_or, Result, Ok, Err, Some}
 use Rattle.srecord.specs.declared.Kind.{Kind}
 use Rattle.srecord.specs.declared.Kind.TheVariants as kinds
+use Rattle.srecord.specs.declared.TextReply.{TextReply}
+use Rattle.srecord.specs.declared.TextReply.TheVariants as replies
 use Rattle.srecord.specs.Records.{bytes_of, is_hex, unhexed}
 use Rattle.srecord.specs.Reading.{Said, Data, End, Skipped, Malformed, WrongSum, meaning}
 use Rattle.srecord_line.specs.declared.Record.{Record}
@@ -16,6 +18,11 @@ record_of (End a) = Ok (records.End a)
 record_of Skipped = Ok records.Skipped
 record_of Malformed = Err errors.Malformed
 record_of WrongSum = Err errors.WrongSum
+
+-- the reply to a text with a wrong line
+abbrev pub reply_of : LineError → TextReply
+reply_of errors.Malformed = replies.Malformed
+reply_of errors.WrongSum = replies.WrongSum
 
 -- whether n bytes for an address are inside so many
 abbrev pub fits_by : ℕ → ℕ → ℕ → Bool

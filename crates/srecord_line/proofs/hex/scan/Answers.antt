@@ -31,5 +31,5 @@ returns-then-right-eq0 c =
 pub returns : goal.returns
 returns c =
     let l = c.loop-pair in
-    (scanned_right c.args.digits.now c.as_chunks.result.0.now c.as_chunks.ensures.front (omega (arith, c.as_chunks.ensures.back_len, c.in_default-empty.len_below))
-    l.pair-index l.right l.sum c.loop-pair-test.false l.invariant.right c.if-right-eq0.false l.invariant.sum).1
+    scanned_right c.args.digits.now c.as_chunks.result.0.now c.as_chunks.ensures.front (omega (arith, c.as_chunks.ensures.back_len, c.in_default-empty.len_below))
+    l.pair-index l.right l.sum c.loop-pair-test.false l.invariant.right c.if-right-eq0.false l.invariant.sum
