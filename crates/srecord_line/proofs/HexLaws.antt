@@ -1,5 +1,5 @@
 -- Pairs of hex digits, and the bytes that they are. Assumes nothing.
-use Rattle.std.proofs.Common.{◌≡◌, ℕ, zero, suc, ◌+◌, ◌-◌, ◌*◌, ◌/◌, ◌%◌, ◌≤◌, ◌<◌, Bool, true, false, cond, ◌&&◌, List, [], ◌∷◌, length, get_or, take, drop, set, refl, sym, ◌∙◌, append_assoc, arith, ltb, leb, Some, None}
+use Rattle.std.proofs.Common.{◌≡◌, ℕ, zero, suc, ◌+◌, ◌-◌, ◌*◌, ◌/◌, ◌%◌, ◌≤◌, ◌<◌, Bool, true, false, cond, ◌&&◌, List, [], ◌∷◌, length, get_or, take, drop, set, refl, sym, ◌∙◌, append_assoc, arith, ltb, ltb-true, leb, Some, None}
 use Rattle.std.proofs.lemmas.Bool.Decides.{nat_tests}
 use Rattle.std.proofs.lemmas.List.{take_all, length-map, get_or-map, take-map, drop-map, map_more}
 use Rattle.std.proofs.lemmas.List.Edits.{sets, sets-eq, paste_none, paste_more, paste_all}
@@ -55,12 +55,14 @@ module _ (ps : List (List ℕ)) (i right sum : ℕ) (l : i < length ps) (e : rig
   pub scan_right : right * (cond (ltb (worth (get_or p 0 0)) 16) 1 0 * cond (ltb (worth (get_or p 1 0)) 16) 1 0) ≡ cond (list_all is_pair (take (i + 1) ps)) 1 0
   scan_right = rw (e, list_all_more is_pair ps i [] l, both_one (list_all is_pair (take i ps)) (ltb (worth (get_or p 0 0)) 16) (ltb (worth (get_or p 1 0)) 16))
 
-  pub scan_sum : (v : ℕ) → (is_pair p ≡ true → v ≡ pair_value p) → (list_all is_pair (take i ps) ≡ true → sum ≡ total (values (take i ps)) % 256)
-      → list_all is_pair (take (i + 1) ps) ≡ true → (sum + v) % 256 ≡ total (values (take (i + 1) ps)) % 256
+  pub scan_sum : (x y : ℕ) → (worth (get_or p 0 0) < 16 → x ≡ worth (get_or p 0 0)) → (worth (get_or p 1 0) < 16 → y ≡ worth (get_or p 1 0))
+      → (list_all is_pair (take i ps) ≡ true → sum ≡ total (values (take i ps)) % 256)
+      → list_all is_pair (take (i + 1) ps) ≡ true → (sum + x * 16 + y) % 256 ≡ total (values (take (i + 1) ps)) % 256
   unfolding total
-  scan_sum v w s h =
-      let g = both (list_all is_pair (take i ps)) (is_pair p) (rw (list_all_more is_pair ps i [] l) at h) in
-      rw (map_more pair_value ps i [] l, total_append (values (take i ps)) (pair_value p ∷ []), w g.1, s g.0) (omega arith)
+  scan_sum x y f g s h =
+      let k = both (list_all is_pair (take i ps)) (is_pair p) (rw (list_all_more is_pair ps i [] l) at h) in
+      let d = both (ltb (worth (get_or p 0 0)) 16) (ltb (worth (get_or p 1 0)) 16) k.1 in
+      rw (map_more pair_value ps i [] l, total_append (values (take i ps)) (pair_value p ∷ []), f (ltb-true _ _ d.0), g (ltb-true _ _ d.1), s k.0) (omega arith)
 
 -- ---- what a scan answers
 

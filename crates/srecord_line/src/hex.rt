@@ -57,8 +57,8 @@ fn value(pair: &[u8; 2]) -> u32
     worth(high) as u32 * 16 + worth(low) as u32
 }
 
-// Digits as bytes, with the low byte of their sum, where they are pairs of hex digits. A wrong one does not end the loop: without branches
-// the compiler takes many pairs at a time.
+// Digits as bytes, with the low byte of their sum, where they are pairs of hex digits. A wrong one does not end the loop, and the sum goes
+// on digit by digit, not by `value`: so the compiler takes many pairs at a time.
 pub(crate) fn scan(digits: &[u8]) -> Option<(HexBytes<'_>, u32)>
     ensures { result ≡ scanned digits.now }
 {
@@ -67,9 +67,9 @@ pub(crate) fn scan(digits: &[u8]) -> Option<(HexBytes<'_>, u32)>
     };
     let mut right: u8 = 1;
     let mut sum: u32 = 0;
-    for pair in pairs {
-        right *= is_digit(pair[0]) * is_digit(pair[1]);
-        sum = (sum + value(pair)) % 256;
+    for [high, low] in pairs {
+        right *= is_digit(*high) * is_digit(*low);
+        sum = (sum + worth(*high) as u32 * 16 + worth(*low) as u32) % 256;
     }
     if right == 0 {
         return None;

@@ -4,9 +4,9 @@ use Rattle.srecord.specs.Records.{total}
 use Rattle.srecord_line.specs.Pairs.{is_pair, values}
 use Rattle.srecord_line.proofs.hex.scan.Given as goal
 
-abbrev pub invariant-loop-pair : goal.invariant-loop-pair
-invariant-loop-pair l = record {
-  right : l.right ≡ cond (list_all is_pair (take l.pair-index l.pairs)) 1 0;
+abbrev pub invariant-loop-high : goal.invariant-loop-high
+invariant-loop-high l = record {
+  right : l.right ≡ cond (list_all is_pair (take l.high-index l.pairs)) 1 0;
   low : l.sum < 256;
-  sum : list_all is_pair (take l.pair-index l.pairs) ≡ true → l.sum ≡ total (values (take l.pair-index l.pairs)) % 256;
+  sum : list_all is_pair (take l.high-index l.pairs) ≡ true → l.sum ≡ total (values (take l.high-index l.pairs)) % 256;
 }
