@@ -1,9 +1,7 @@
 -- `srecord_write::write::checksum` meets its contract. Assumes nothing.
-use native.Mathlib.Omega.{arith}
+use Rattle.std.proofs.Common.{arith}
+use Rattle.srecord_write.proofs.WriteLaws.{low_sums}
 use Rattle.srecord_write.proofs.write.checksum.Goals as goal
 
-pub overflow_add-result : goal.overflow_add-result
-overflow_add-result c = omega arith
-
-pub overflow_add-result-2 : goal.overflow_add-result-2
-overflow_add-result-2 c = omega arith
+pub returns : goal.returns
+returns c = rw (c.low_sum.ensures, c.low_sum-2.ensures, low_sums c.args.address.now, low_sums c.args.bytes.now) (omega arith)
