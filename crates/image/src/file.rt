@@ -73,7 +73,7 @@ fn fill(program: &[u8], mem: &mut [u8])
 
 // The machine that an image file says, its memory in place; refused with 9, 8, 9 or 2, in this order.
 pub fn read_image(file: &[u8], mem: &mut [u8]) -> Result<Loaded, Reply>
-    ensures { loaded result mem.new ≡ load_image file.now mem.old }
+    ensures { let i = load_image file.now mem.old in (result ≡ loaded i) × (mem.new ≡ i.storage) }
 {
     let (head, program) = accepted(file, mem)?;
     let budget = long_at(head, BUDGET_AT);
