@@ -1,21 +1,8 @@
--- A count's digits are what the library prints of it, and registers in a row. Assumes nothing.
-use Rattle.std.proofs.Common.{◌≡◌, ℕ, zero, suc, ◌+◌, ◌-◌, ◌%◌, ◌^◌, ◌<◌, List, [], ◌∷◌, ◌++◌, length, get_or, take, drop, length-drop, length-take-le, refl, sym, arith, append_assoc, append-nil, add-zero, zero-add, add-one, add_assoc, add_comm}
+-- Registers in a row. Assumes nothing.
+use Rattle.std.proofs.Common.{◌≡◌, ℕ, zero, suc, ◌+◌, ◌-◌, ◌<◌, List, [], ◌∷◌, ◌++◌, length, get_or, take, drop, length-drop, length-take-le, refl, arith, append_assoc, append-nil, add-zero, zero-add, add-one, add_assoc, add_comm}
 use Rattle.std.proofs.lemmas.List.{get_or-take}
-use Rattle.std.proofs.lemmas.Fmt.{AppendsLastDigit, decimal_from_appends, length-decimal-le}
-use Rattle.std.specs.Fmt.{decimal as decimal_text}
-use borrow.Author.Tests.{lt-ltb, le-ltb}
 use lib.Seq.{get_or-drop, take_all}
-use Rattle.manual.specs.Image.{digit, hex, decimal, longs, space}
-
-appends : AppendsLastDigit decimal
-unfolding decimal digit
-appends = record {
-  one = λ k n h. rw (lt-ltb n 10 h);
-  more = λ k n h. rw (le-ltb n 10 h, lt-ltb (n % 10) 10 (omega arith));
-}
-
-pub decimal-is : (n : ℕ) → n < 2 ^ 32 → decimal_text n ≡ decimal 10 n
-decimal-is n h = sym (decimal_from_appends decimal appends 10 n (omega arith) (length-decimal-le 10 n (omega arith) (omega arith) (omega arith)))
+use Rattle.manual.specs.Image.{hex, longs, space}
 
 longs-suc : (g : List ℕ) (i n : ℕ) → longs g i (suc n) ≡ longs g i n ++ (space ∷ hex 8 (get_or g (i + n) 0))
 unfolding longs

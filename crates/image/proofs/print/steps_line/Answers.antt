@@ -1,7 +1,7 @@
 -- The digits are the count's.
 use Rattle.std.proofs.Common.{lit<, arith, append_assoc}
 use Rattle.manual.specs.Image.{steps_line}
-use Rattle.image.proofs.PrintLaws.{decimal-is}
+use Rattle.image.specs.TextLaws.{decimal-is}
 use Rattle.image.proofs.print.steps_line.Goals as goal
 
 pub returns-clause-bytes : goal.returns-clause-bytes
