@@ -20,7 +20,5 @@ fn main(rt: HostRuntime) -> io::Result<()> {
     let mut input = input_buffer();
     let n = read_full(&mut rt.stdin(), &mut input)?;
     let mut mem = [0u8; 49_152];
-    let text = answer(&input[..n], &mut mem);
-    let bytes = text.bytes;
-    rt.write_all(&bytes[..text.len])
+    rt.print(answer(&input[..n], &mut mem))
 }

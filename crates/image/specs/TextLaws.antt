@@ -1,7 +1,11 @@
--- What is printed lies in the bytes that it is handed back in, so that a program can lend just the text. Assumes nothing.
-use Rattle.std.specs.Prelude.{ℕ, ◌-◌, ◌≤◌, ◌≡◌, Bool, true, false, cond, List, ◌++◌, length, replicate}
-use Rattle.std.proofs.Common.{ap, arith, length-append}
-use Rattle.manual.specs.Image.{Printed, printed, text_of}
+-- What is printed lies in the bytes that it is handed back in, so that a program can lend just the text; and the digits that the
+-- library prints are the definition's. Assumes nothing.
+use Rattle.std.specs.Prelude.{ℕ, ◌-◌, ◌%◌, ◌^◌, ◌<◌, ◌≤◌, ◌≡◌, Bool, true, false, cond, List, ◌++◌, length, replicate}
+use Rattle.std.proofs.Common.{ap, sym, arith, length-append}
+use Rattle.std.proofs.lemmas.Fmt.{AppendsLastDigit, decimal_from_appends, length-decimal-le}
+use Rattle.std.specs.Fmt.{decimal as decimal_text}
+use borrow.Author.Tests.{lt-ltb, le-ltb}
+use Rattle.manual.specs.Image.{Printed, printed, text_of, digit, decimal}
 use Rattle.manual.specs.Memory.{Storage}
 use Rattle.instructions.specs.Run.{RunOutcome}
 use Rattle.instructions.specs.ImageRun.{ImageRan, image_ran, ran_text}
@@ -18,3 +22,15 @@ pub either_in : (d : Bool) (o : RunOutcome) (x b : List ℕ) (m m' : Storage) (n
 unfolding ran_text
 either_in true o x b m m' n e = text_in _ b n (ap (λ (r : ImageRan). r.text) e)
 either_in false o x b m m' n e = text_in x b n (ap (λ (r : ImageRan). r.text) e)
+
+-- ---- digits
+
+appends : AppendsLastDigit decimal
+unfolding decimal digit
+appends = record {
+  one = λ k n h. rw (lt-ltb n 10 h);
+  more = λ k n h. rw (le-ltb n 10 h, lt-ltb (n % 10) 10 (omega arith));
+}
+
+pub decimal-is : (n : ℕ) → n < 2 ^ 32 → decimal_text n ≡ decimal 10 n
+decimal-is n h = sym (decimal_from_appends decimal appends 10 n (omega arith) (length-decimal-le 10 n (omega arith) (omega arith) (omega arith)))
