@@ -52,11 +52,11 @@ fn extension_in_use(k: Mode, a: u64) -> bool
     ensures { result ≡ extension_in_use k a }
 {
     if k.fi {
-        a >= 0x80_0000_0000 && a < 0xFF80_0000_0000
+        (0x80_0000_0000..0xFF80_0000_0000).contains(&a)
     } else if k.su {
         a >= 0x1_0000_0000
     } else {
-        a >= 0x8000_0000 && a < 0xFFFF_8000_0000
+        (0x8000_0000..0xFFFF_8000_0000).contains(&a)
     }
 }
 
