@@ -172,7 +172,7 @@ pub fn control(g: &[u32; 16], mem: &[u8], pc: u32, o: Operand) -> Option<Result<
     }
 }
 
-// Every mode, by the plain leaves.
+// Every mode, by the plain leaves. `destination` is alike, but a Destination holds a place where a Source holds a value.
 fn source_by_leaves(g: &[u32; 16], mem: &[u8], pc: u32, op: u32, z: Size) -> Source
     ensures { result ≡ source_of g.now (mapped mem.now) pc op z }
 {

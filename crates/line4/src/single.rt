@@ -33,7 +33,7 @@ fn replaced(at: u32, sr: u16, op: u32, v: u32) -> Change
     done(next, codes, no_write(), write_data(op % 8, v))
 }
 
-// EXTB: a byte to a long.
+// EXTB: a byte to a long. EXTB, EXT.L and their kin are a definition each; `replaced` is what they share.
 pub fn extb(g: &[u32; 16], at: u32, sr: u16, op: u32) -> Change
     ensures { result ≡ extb_of g.now at sr op }
 {

@@ -70,6 +70,7 @@ pub(crate) fn move_to_emac(
     acting(sr, from.next, from.moved, setting(part, op, v))
 }
 
+// 0 is -1 here and 8 in Line5.quick_number: two definitions of two lines, with nothing else to share.
 fn three_bits(op: u32) -> u32
     ensures { result ≡ three_bits op }
 {

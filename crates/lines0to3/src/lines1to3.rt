@@ -83,7 +83,7 @@ fn movea(z: Size, g: &[u32; 16], at: u32, sr: u16, mem: &[u8], op: u32) -> Chang
     done(from.next, codes, from.moved, whole)
 }
 
-// The size of a line's MOVE.
+// The size of a line's MOVE. This and the two tables below are those of MoveLines: a row is a number of one line, and has no size.
 fn move_size(line: u8) -> Size
     ensures { result ≡ move_size line }
 {

@@ -64,7 +64,7 @@ pub fn add_to_memory(add: bool, g: &[u32; 16], at: u32, mem: &[u8], op: u32) -> 
     add_to_place(add, size_of(op / 64), g, at, mem, op, data(g, op / 512 % 8))
 }
 
-// A number added to a long, or taken from it, wrapped.
+// A number added to a long, or taken from it, wrapped. Line8.word_divided and LineC.product choose alike, each between two of its own.
 pub fn more_or_less(add: bool, old: u32, v: u32) -> u32
     ensures { result ≡ more_or_less add old v }
 {
