@@ -85,6 +85,7 @@ impl<'a> HexBytes<'a> {
         self.pairs.len()
     }
 
+    // The byte at a place.
     pub(crate) fn at(&self, k: usize) -> u32
         requires { k < length self.now }
         ensures { (result ≡ get_or self.now k 0) × (result < 256) }
@@ -116,7 +117,7 @@ impl<'a> HexBytes<'a> {
         }
     }
 
-    // The bytes, from a place of memory on.
+    // Puts the bytes into memory, from a place on.
     pub(crate) fn store(&self, mem: &mut [u8], at: usize)
         requires { fits_by (length mem.old) at (length self.now) ≡ true }
         ensures { mem.new ≡ sets mem.old at self.now }

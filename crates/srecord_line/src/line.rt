@@ -36,6 +36,7 @@ fn is_formed(kind: Kind, bytes: &HexBytes) -> bool
     long && n == bytes.at(0) as usize + 1
 }
 
+// What the record of a kind is, by its digits.
 fn record(kind: Kind, digits: &[u8]) -> Result<Record<'_>, LineError>
     ensures { result ≡ record_of (in_hex kind digits.now) }
 {

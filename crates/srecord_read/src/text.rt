@@ -11,7 +11,8 @@ fn line_end(text: &[u8]) -> Option<usize>
     text.iter().position(|b| *b == b'\n')
 }
 
-// The first line, without its LF, and the text behind it; none where no LF stands in a text.
+// The first line, without its LF, and the text behind it; none where no LF stands in a text. Loops go on with that text and are no
+// `for`, since an end asks for what is behind it.
 pub(crate) fn next_line(text: &[u8]) -> Option<(&[u8], &[u8])>
     ensures { MatchOption result (NoLf text.now) (λ p. Splits text.now p.0.now p.1.now) }
 {

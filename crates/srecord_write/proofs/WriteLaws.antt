@@ -41,10 +41,6 @@ unfolding hexed
 length_hexed [] = refl
 length_hexed (x ∷ xs) = omega (arith, length_hexed xs)
 
-pub hex_start : (l : List ℕ) (i : ℕ) → l ≡ sets l i (hexed [])
-unfolding hexed
-hex_start l i = refl
-
 -- i bytes are put, and one more
 pub hex_more : (l t bytes : List ℕ) (at i : ℕ) → i < length bytes → t ≡ sets l at (hexed (take i bytes))
     → set (set t (at + 2 * i) (digit (get_or bytes i 0 / 16))) (at + 2 * i + 1) (digit (get_or bytes i 0 % 16)) ≡ sets l at (hexed (take (i + 1) bytes))

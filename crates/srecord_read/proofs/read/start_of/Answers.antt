@@ -2,7 +2,7 @@
 use Rattle.std.proofs.Common.{sym, refl}
 use Rattle.std.proofs.lemmas.Result.{err_from_is_err_and}
 use Rattle.srecord.specs.Reading.{end_of}
-use Rattle.srecord_read.proofs.ReadLaws.{too_long, goes, ends, stops, ends_bad, shorter}
+use Rattle.srecord_read.proofs.ReadLaws.{too_long, goes, ends, stops, ends_bad}
 use Rattle.srecord_read.proofs.read.start_of.Goals as goal
 
 pub returns-then-size-gt16777216 : goal.returns-then-size-gt16777216
@@ -45,6 +45,3 @@ loop-line-preserved c =
 pub returns : goal.returns
 returns c =
     (ends_bad c.args.size c.loop-line.rest.now c.args.text.now c.if-size-gt16777216.false c.loop-line.invariant c.in_default.ensures, refl)
-
-pub loop-line-smaller : goal.loop-line-smaller
-loop-line-smaller c = shorter c.loop-line.rest.now c.in-Some.line.now c.in-Some.after.now c.in-Some.ensures

@@ -1,6 +1,6 @@
 -- `srecord_read::read::store_text` meets its contract: what is left to store gives the same. Assumes nothing.
 use Rattle.std.proofs.Common.{◌∙◌}
-use Rattle.srecord_read.proofs.ReadLaws.{placed_here, placed_end, shorter}
+use Rattle.srecord_read.proofs.ReadLaws.{placed_here, placed_end}
 use Rattle.srecord_read.proofs.read.store_text.Goals as goal
 
 pub loop-line-preserved : goal.loop-line-preserved
@@ -10,6 +10,3 @@ loop-line-preserved c =
 
 pub returns : goal.returns
 returns c = placed_end c.loop-line.rest.now c.in_default.ensures c.loop-line.mem ∙ c.loop-line.invariant
-
-pub loop-line-smaller : goal.loop-line-smaller
-loop-line-smaller c = shorter c.loop-line.rest.now c.in-Some.line.now c.in-Some.after.now c.in-Some.ensures

@@ -1,6 +1,6 @@
 -- `srecord_read::text::clear` meets its contract: what is left is clear where the whole is. Assumes nothing.
 use Rattle.std.proofs.Common.{◌∙◌}
-use Rattle.srecord_read.proofs.ReadLaws.{not_clear, still_clear, clear_end, shorter}
+use Rattle.srecord_read.proofs.ReadLaws.{not_clear, still_clear, clear_end}
 use Rattle.srecord_read.proofs.text.clear.Goals as goal
 
 pub returns-then-not-is_empty : goal.returns-then-not-is_empty
@@ -15,6 +15,3 @@ loop-line-preserved c =
 
 pub returns : goal.returns
 returns c = c.is_empty-2.ensures ∙ clear_end c.loop-line.rest.now c.in_default.ensures ∙ c.loop-line.invariant
-
-pub loop-line-smaller : goal.loop-line-smaller
-loop-line-smaller c = shorter c.loop-line.rest.now c.in-Some.line.now c.in-Some.after.now c.in-Some.ensures
