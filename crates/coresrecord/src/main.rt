@@ -9,7 +9,8 @@ use run::answer;
 use standard_input::read_full;
 use std::io;
 
-// A byte more than the longest input, so that a longer one is noticed.
+// A byte more than the longest input, so that a longer one is noticed. It is made here, since a proof of `main` that sees the
+// million zeros themselves does not end.
 fn input_buffer() -> [u8; 1_048_587]
     ensures { 1048587 ≡ length result }
 {

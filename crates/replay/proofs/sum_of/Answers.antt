@@ -1,15 +1,12 @@
--- `replay::sum_of` meets its contract: the sum is that of the bytes passed. Assumes nothing.
-use mathlib.Core.Path.{refl}
-use native.Mathlib.Numerals.{add-one}
-use borrow.Author.Rules.{rules}
+-- The sum is that of the bytes passed.
+use Rattle.std.proofs.Common.{refl, rules, add-one}
 use Rattle.replay.specs.Sums.{summed}
 use Rattle.replay.proofs.sum_of.Goals as goal
 
-pub loop-i-init : goal.loop-i-init
+pub loop-byte-init : goal.loop-byte-init
 unfolding summed
-loop-i-init c = (search rules, refl, search rules)
+loop-byte-init c = (refl, search rules)
 
-pub loop-i-preserved : goal.loop-i-preserved
+pub loop-byte-preserved : goal.loop-byte-preserved
 unfolding summed
-loop-i-preserved c =
-    (search rules, rw (add-one, c.loop-i.invariant.1, c.wide.ensures.0), search rules)
+loop-byte-preserved c = (rw (add-one, ← c.loop-byte.invariant.0, c.from.ensures), search rules)
