@@ -1,5 +1,6 @@
 // An accumulator's number in the state block: 64 bits of two's complement.
 #![tactic(auto, unfolding(manual::specs::Emac::block_in_range, manual::specs::Emac::block_number))]
+
 ghost use Rattle.std.specs.Prelude.{◌≡◌};
 ghost use Rattle.manual.specs.Emac.{block_number, block_in_range};
 

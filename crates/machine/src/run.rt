@@ -37,17 +37,7 @@ fn ended(reply: Reply, count: u32, vector: u8, cpu: Cpu) -> Progress
 fn assembled(rest: Cpu, g: [u32; 16], pc: u32, sr: u16, macsr: u32, mask: u32, acc: [u64; 4]) -> Cpu
     ensures { result ≡ with_parts g pc sr (emac_of macsr mask acc) rest }
 {
-    with_parts(
-        rest,
-        g,
-        pc,
-        sr,
-        Emac {
-            macsr,
-            mask,
-            acc,
-        },
-    )
+    with_parts(rest, g, pc, sr, Emac { macsr, mask, acc })
 }
 
 // As many steps as the budget says, or up to one that is refused. The registers stand apart from the rest of the state, which is checked
