@@ -95,6 +95,7 @@ impl<'a> HexBytes<'a> {
     }
 
     // The address behind the count.
+    #[tactic(auto, unfolding(manual::specs::Memory::value_at))]
     pub(crate) fn address(&self, width: Width) -> u32
         requires { bytes_of width < length self.now }
         ensures { result ≡ address (bytes_of width) self.now }

@@ -1,5 +1,5 @@
 -- A text line by line. Assumes nothing.
-use Rattle.std.proofs.Common.{◌≡◌, ℕ, suc, ◌+◌, ◌*◌, ◌-◌, ◌≤◌, ◌<◌, ◌==◌, Bool, true, false, cond, not, ◌&&◌, List, [], ◌∷◌, ◌++◌, length, get_or, take, drop, refl, sym, ap, ◌∙◌, arith, ne_eqb, le-leb, ltb, ltb-false, length-append, length-drop, length-take-le, take-append-drop, drop-cons, Option, Some, None, Result, Ok, Err}
+use Rattle.std.proofs.Common.{◌≡◌, ℕ, suc, ◌+◌, ◌-◌, ◌≤◌, ◌<◌, ◌==◌, Bool, true, false, cond, not, ◌&&◌, List, [], ◌∷◌, ◌++◌, length, get_or, take, drop, refl, sym, ap, ◌∙◌, arith, ne_eqb, le-leb, ltb, ltb-false, length-append, length-drop, length-take-le, take-append-drop, drop-cons, Option, Some, None, Result, Ok, Err}
 use Rattle.std.proofs.lemmas.Bool.{lt-leb}
 use Rattle.std.proofs.lemmas.Bool.Decides.{nat_tests}
 use Rattle.std.proofs.lemmas.List.{take_all, take_more}
@@ -14,7 +14,6 @@ use Rattle.srecord.specs.declared.TextReply.TheVariants as replies
 use Rattle.srecord.specs.declared.ReadAnswer.{ReadAnswer}
 use Rattle.srecord.specs.Records.{lf, cr}
 use Rattle.srecord.specs.Reading.{Said, Data, End, Skipped, Malformed, WrongSum, said, bare, fits, lines, ended, is_empty, all_empty, read_refused, end_of, on_line, verdict, stored, placed, text_done, reading, answer_to, read_text}
-use Rattle.srecord.specs.TextCalls.{text_number, text_called, read_call}
 use Rattle.srecord_line.specs.declared.Record.{Record}
 use Rattle.srecord_line.specs.declared.Record.TheVariants as records
 use Rattle.srecord_line.specs.declared.LineError.{LineError}
@@ -233,8 +232,3 @@ module _ (t m : List ℕ) where
   pub read_not : (r : TextReply) → text_done r ≡ false → answer_of (Err r) ≡ answer_to t (length m) → reading (answer_of (Err r)) m ≡ read_text t m
   unfolding read_text
   read_not r f e = rw (← e, f)
-
-  pub read_called : (r : ReadAnswer) (m' : List ℕ) → reading r m' ≡ read_text t m
-      → text_called (text_number r.reply + 256 * r.start) m' ≡ read_call t m
-  unfolding read_call
-  read_called r m' e = rw (← e)

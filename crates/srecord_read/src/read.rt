@@ -74,6 +74,7 @@ pub fn read(text: &[u8], mem: &mut [u8]) -> ReadAnswer
 }
 
 // The same in one number: the reply's, and 256 times the start address.
+#[tactic(auto, unfolding(srecord::specs::TextCalls::read_call))]
 pub fn read_call(text: &[u8], mem: &mut [u8]) -> u64
     ensures { text_called result mem.new ≡ read_call text.now mem.old }
 {

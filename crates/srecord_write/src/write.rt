@@ -28,6 +28,7 @@ fn put(text: &mut [u8], at: usize, bytes: &[u8]) -> usize
     end
 }
 
+#[tactic(auto, unfolding(srecord::specs::Writing::hexed))]
 fn put_hex(text: &mut [u8], at: usize, bytes: &[u8]) -> usize
     requires { at + 2 * length bytes.now ≤ length text.old }
     ensures { Puts text.old at (hexed bytes.now) text.new result }
@@ -46,6 +47,7 @@ fn low_sum(bytes: &[u8]) -> u8
     bytes.iter().fold(0, |sum: u8, b| sum.wrapping_add(*b))
 }
 
+#[tactic(auto, using(crate::proofs::WriteLaws::low_sums))]
 fn checksum(count: u8, address: &[u8; 4], bytes: &[u8]) -> u8
     ensures { result ≡ 255 - (count + (total address.now + total bytes.now)) % 256 }
 {
@@ -129,6 +131,7 @@ pub fn write(mem: &[u8], from: u32, count: u32, start: u32, text: &mut [u8]) -> 
 }
 
 // The same in one number: the reply's, and 256 times the count of bytes that were written.
+#[tactic(auto, unfolding(srecord::specs::TextCalls::write_call))]
 pub fn write_call(mem: &[u8], from: u32, count: u32, start: u32, text: &mut [u8]) -> u64
     ensures { text_called result text.new ≡ write_call mem.now from count start text.old }
 {

@@ -1,14 +1,10 @@
 -- `srecord_write::write::put_hex` meets its contract. Assumes nothing.
-use Rattle.std.proofs.Common.{refl, arith, ap, ◌∙◌}
+use Rattle.std.proofs.Common.{arith, ap, ◌∙◌}
 use Rattle.std.proofs.lemmas.List.{take_all}
 use Rattle.std.proofs.lemmas.List.Edits.{sets}
 use Rattle.srecord.specs.Writing.{hexed}
 use Rattle.srecord_write.proofs.WriteLaws.{hex_more, length_hexed}
 use Rattle.srecord_write.proofs.write.put_hex.Goals as goal
-
-pub loop-i-init : goal.loop-i-init
-unfolding hexed
-loop-i-init c = refl
 
 pub loop-i-preserved : goal.loop-i-preserved
 loop-i-preserved c =
