@@ -3,8 +3,7 @@
 
 pub mod calls;
 
-ghost use Rattle.std.specs.Prelude.{◌≡◌};
-ghost use Rattle.manual.specs.declared.Level.TheVariants.{Kept, To};
+ghost use Rattle.std.specs.Prelude.{◌≡◌, None, Some};
 ghost use Rattle.manual.specs.Lent.{lent};
 ghost use Rattle.instructions.specs.HostCalls.{called, exception_on, interrupt_on, rte_on, step_on, run_on};
 ghost use Rattle.srecord.specs.TextCalls.{text_called, read_call, write_call};
@@ -48,14 +47,14 @@ pub fn rte(block: &mut [u8], mem: &mut [u8]) -> u32
 
 // Enters an exception, keeping the mask: the number of the reply.
 pub fn exception(block: &mut [u8], mem: &mut [u8], vector: u8, pc: u32) -> u32
-    ensures { called result block.new mem.new ≡ exception_on block.old (lent mem.old) vector pc Kept }
+    ensures { called result block.new mem.new ≡ exception_on block.old (lent mem.old) vector pc None }
 {
     exception_call(block, mem, vector, pc)
 }
 
 // Enters an exception at a level: the number of the reply.
 pub fn exception_at(block: &mut [u8], mem: &mut [u8], vector: u8, pc: u32, level: u8) -> u32
-    ensures { called result block.new mem.new ≡ exception_on block.old (lent mem.old) vector pc (To level) }
+    ensures { called result block.new mem.new ≡ exception_on block.old (lent mem.old) vector pc (Some level) }
 {
     exception_at_call(block, mem, vector, pc, level)
 }

@@ -1,7 +1,7 @@
 -- `harness::calls::exception` meets its contract. Assumes nothing.
 use Rattle.std.proofs.Common.{rules}
 use Rattle.manual.specs.declared.Cpu.{Cpu}
-use Rattle.manual.specs.declared.Level.TheVariants.{Kept}
+use Rattle.std.specs.Prelude.{None}
 use Rattle.manual.specs.Lent.{lent}
 use Rattle.manual.specs.Exceptions.{exception}
 use Rattle.instructions.specs.HostCalls.{exception_on}
@@ -10,4 +10,4 @@ use Rattle.harness.proofs.calls.exception.Goals as goal
 
 pub returns : goal.returns
 unfolding exception_on
-returns c = let x = c.args in on_block-is _ _ _ _ _ _ _ c.on_block.ensures (λ (s : Cpu). exception s (lent x.mem.now) x.vector x.pc Kept) (λ s o h. search rules)
+returns c = let x = c.args in on_block-is _ _ _ _ _ _ _ c.on_block.ensures (λ (s : Cpu). exception s (lent x.mem.now) x.vector x.pc None) (λ s o h. search rules)
