@@ -1,4 +1,5 @@
 // A change done in place, where it has nothing more to do than to store.
+#![tactic(auto, unfolding(crate::specs::Effects::in_place))]
 ghost use Rattle.std.specs.Prelude.{◌≡◌, ℕ};
 ghost use Rattle.manual.specs.Memory.{Memory, mapped, storage_of};
 ghost use Rattle.quick_parts.specs.Effects.{after, agreed};

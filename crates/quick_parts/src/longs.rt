@@ -1,4 +1,5 @@
 // The condition codes of longs, in 32 bits.
+#![tactic(auto, unfolding(manual::specs::Flags::added, manual::specs::Flags::compare_codes, manual::specs::Flags::move_codes, manual::specs::Flags::subtracted, manual::specs::Flags::sum_codes))]
 ghost use Rattle.std.specs.Prelude.{◌≡◌, ◌+◌, ◌*◌, ◌/◌, ◌%◌, ◌≤◌, false};
 ghost use Rattle.manual.specs.declared.Size.TheVariants.{Long};
 ghost use Rattle.manual.specs.Word.{bit as bit_of};

@@ -1,4 +1,5 @@
 // Dn, An, (An), (An)+, -(An) and d16(An); of longs that are read, immediates too; of bytes and words that are read, d8(An,Xi) too.
+#![tactic(auto, unfolding(manual::specs::Address::control, manual::specs::Address::extension, manual::specs::Address::locate, manual::specs::Address::moved, manual::specs::Address::operand, manual::specs::Address::source, manual::specs::Registers::address_of))]
 ghost use Rattle.std.specs.Prelude.{◌≡◌, List, ℕ, ◌+◌, ◌*◌, ◌/◌, ◌%◌};
 ghost use Rattle.manual.specs.Memory.{mapped};
 ghost use Rattle.manual.specs.declared.Size.{Size};

@@ -17,5 +17,5 @@ returns-then-op-eq0 c =
 pub returns : goal.returns
 unfolding clr_of destination_of put_to_of
 returns c =
-    let h = at _ _ _ _ _ c.in-Some.is (c.spot.ensures _ (sym c.address-a.ensures)) in
+    let h = at _ _ _ _ _ c.in-At.is (c.spot.ensures _ (sym c.address-a.ensures)) in
     rw (← c.size_of-z.ensures, ← c.plus-at.ensures, ← c.move_codes-codes.ensures, put_first _ _ _ _ _ _ _ _ _ _ h, ← c.no_write-2.ensures, ← c.store-c.ensures) c.stored.ensures

@@ -6,5 +6,5 @@ use Rattle.quick_bodies.proofs.moves.lea.Goals as goal
 pub returns : goal.returns
 unfolding lea_of
 returns c =
-    let h = control-at _ _ _ _ _ c.in-Some.is c.control_spot.ensures in
+    let h = control-at _ _ _ _ _ c.in-At.is c.control_spot.ensures in
     rw (← c.plus.ensures, ap (λ (k : Controlled). k.reached) h, ap (λ (k : Controlled). k.next) h, ← c.kept_codes-codes.ensures, ap (λ (k : Controlled). k.step) h, ← c.write_address.ensures, ← c.done.ensures) (c.changed.ensures _)

@@ -11,4 +11,4 @@ returns-then-mode-lt2 c =
 pub returns-in-Ok : goal.returns-in-Ok
 returns-in-Ok c =
     let a = c.args in
-    to_read a.z a.g.now a.mem.now a.pc a.op c.readable.result _ _ _ _ c.readable.ensures c.in-Some.is (search rules) (sym c.load.ensures ∙ c.in-Ok.is)
+    to_read a.z a.g.now a.mem.now a.pc a.op c.readable.result _ _ _ _ c.readable.ensures c.in-At.is (search rules) (sym c.load.ensures ∙ c.in-Ok.is)

@@ -11,4 +11,4 @@ returns-then-op-lt2 c =
 pub returns-in-Ok : goal.returns-in-Ok
 returns-in-Ok c =
     let a = c.args in
-    loaded a.z a.g.now a.mem.now a.pc a.op _ _ _ _ (at c.any_spot.result _ _ _ _ c.in-Some.is c.any_spot.ensures) (sym c.load.ensures ∙ c.in-Ok.is)
+    loaded a.z a.g.now a.mem.now a.pc a.op _ _ _ _ (at c.any_spot.result _ _ _ _ c.in-At.is c.any_spot.ensures) (sym c.load.ensures ∙ c.in-Ok.is)
