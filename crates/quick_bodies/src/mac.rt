@@ -1,4 +1,5 @@
 // MAC and MSAC, done in place.
+#![tactic(auto, unfolding(crate::specs::Units::in_unit, instructions::specs::LineA::load_moves, instructions::specs::LineA::mac, instructions::specs::LineA::mac_registers, instructions::specs::LineA::mac_with_load, manual::specs::Change::acting, manual::specs::Registers::no_write, manual::specs::Registers::written))]
 ghost use Rattle.std.specs.Prelude.{◌≡◌, ℕ, ◌+◌, ◌*◌, ◌/◌, ◌%◌};
 ghost use Rattle.manual.specs.Memory.{mapped};
 ghost use Rattle.manual.specs.declared.Emac.{Emac};
