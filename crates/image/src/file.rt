@@ -25,6 +25,7 @@ const PROGRAM_AT: usize = 19;
 
 const IMAGE_MEMORY: usize = 49_152;
 
+#[tactic(auto, using(memory::specs::MemoryLaws::value_two), unfolding(manual::specs::Image::image_state))]
 fn image_state(head: &[u8; PROGRAM_AT]) -> Cpu
     ensures { result ≡ image_state head.now }
 {
