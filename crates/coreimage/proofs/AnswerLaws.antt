@@ -1,5 +1,5 @@
 -- A file that is refused, and one that is run, and what is printed of it. Assumes nothing.
-use Rattle.std.proofs.Common.{◌≡◌, ℕ, Bool, true, false, cond, List, Ok, Err, refl}
+use Rattle.std.proofs.Common.{◌≡◌, ℕ, Bool, true, false, cond, List, Ok, Err, refl, ap}
 use Rattle.manual.specs.declared.Cpu.{Cpu}
 use Rattle.manual.specs.declared.Ran.{Ran}
 use Rattle.manual.specs.declared.Reply.{Reply}
@@ -10,7 +10,7 @@ use Rattle.manual.specs.Memory.{Storage}
 use Rattle.instructions.specs.Run.{run_outcome, run}
 use Rattle.instructions.specs.ImageRun.{image_ran, image_run, ran_text}
 use Rattle.image.specs.declared.Loaded.{Loaded}
-use Rattle.image.specs.Loads.{loaded}
+use Rattle.image.specs.Loads.{ImageRead, image_read, loaded, read_of}
 
 ok-is : (d : Bool) (n : Reply) (b : ℕ) (s : Cpu) (l : Loaded) → Ok l ≡ cond d (Ok (record { budget = b; cpu = s })) (Err n) → (d ≡ true) × (b ≡ l.budget) × (s ≡ l.cpu)
 ok-is true n b s l e = (refl, cc, cc)
@@ -20,17 +20,19 @@ err-is : (d : Bool) (n r : Reply) (l : Loaded) → Err r ≡ cond d (Ok l) (Err 
 err-is true n r l e = cc
 err-is false n r l e = (refl, cc)
 
-pub refused-is : (f x : List ℕ) (m m' : Storage) (n : Reply) → Err n ≡ loaded (load_image f m) → m' ≡ (load_image f m).storage → x ≡ answer_line n → image_ran (text_of x) m' ≡ image_run f m
-unfolding image_run loaded
-refused-is f x m m' n e same text =
+pub refused-is : (f x : List ℕ) (m m' : Storage) (n : Reply) → image_read (Err n) m' ≡ read_of (load_image f m) → x ≡ answer_line n → image_ran (text_of x) m' ≡ image_run f m
+unfolding image_run loaded read_of
+refused-is f x m m' n e text =
     let i : Image = load_image f m in
-    let p = err-is (is_done i.reply) i.reply n (record { budget = i.budget; cpu = i.cpu }) e in
+    let p = err-is (is_done i.reply) i.reply n (record { budget = i.budget; cpu = i.cpu }) (ap (λ (o : ImageRead). o.answer) e) in
+    let same : m' ≡ i.storage = ap (λ (o : ImageRead). o.storage) e in
     rw (p.0, p.1, same, text)
 
-pub ran-is : (f x : List ℕ) (m m' m'' : Storage) (l : Loaded) (r : Ran) → Ok l ≡ loaded (load_image f m) → m' ≡ (load_image f m).storage
+pub ran-is : (f x : List ℕ) (m m' m'' : Storage) (l : Loaded) (r : Ran) → image_read (Ok l) m' ≡ read_of (load_image f m)
     → run_outcome r m'' ≡ run l.budget l.cpu (lent m') → x ≡ run_text r.reply r.count r.cpu → image_ran (text_of x) m'' ≡ image_run f m
-unfolding image_run loaded ran_text
-ran-is f x m m' m'' l r e same ran text =
+unfolding image_run loaded read_of ran_text
+ran-is f x m m' m'' l r e ran text =
     let i : Image = load_image f m in
-    let p = ok-is (is_done i.reply) i.reply i.budget i.cpu l e in
+    let p = ok-is (is_done i.reply) i.reply i.budget i.cpu l (ap (λ (o : ImageRead). o.answer) e) in
+    let same : m' ≡ i.storage = ap (λ (o : ImageRead). o.storage) e in
     rw (p.0, p.1, p.2, ← same, ← ran, text)

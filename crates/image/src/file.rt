@@ -2,7 +2,7 @@
 ghost use Rattle.std.specs.Prelude.{◌≡◌, ◌-◌, ◌≤◌, ◌++◌, false, length, replicate, take, drop, IfOk, IfErr};
 ghost use Rattle.manual.specs.Image.{image_memory, program_at, image_state, image_reply, load_image};
 ghost use Rattle.manual.specs.Reply.{is_done};
-ghost use Rattle.image.specs.Loads.{loaded};
+ghost use Rattle.image.specs.Loads.{image_read, read_of};
 
 use crate::Loaded;
 use manual::block_places::{HEAD_BYTES, LENGTH_AT, VERSION_AT};
@@ -25,6 +25,7 @@ const PROGRAM_AT: usize = 19;
 
 const IMAGE_MEMORY: usize = 49_152;
 
+#[tactic(auto, using(memory::specs::MemoryLaws::value_two), unfolding(manual::specs::Image::image_state))]
 fn image_state(head: &[u8; PROGRAM_AT]) -> Cpu
     ensures { result ≡ image_state head.now }
 {
@@ -73,7 +74,7 @@ fn fill(program: &[u8], mem: &mut [u8])
 
 // The machine that an image file says, its memory in place; refused with 9, 8, 9 or 2, in this order.
 pub fn read_image(file: &[u8], mem: &mut [u8]) -> Result<Loaded, Reply>
-    ensures { let i = load_image file.now mem.old in (result ≡ loaded i) × (mem.new ≡ i.storage) }
+    ensures { image_read result mem.new ≡ read_of (load_image file.now mem.old) }
 {
     let (head, program) = accepted(file, mem)?;
     let budget = long_at(head, BUDGET_AT);

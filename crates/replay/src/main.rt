@@ -72,6 +72,7 @@ fn replay(file: &mut Rest) -> Tally
 }
 
 // A sum of all bytes: it changes where one byte does.
+#[tactic(auto, unfolding(crate::specs::Sums::summed))]
 fn sum_of(file: &[u8]) -> u64
     ensures { result ≡ summed (length file.now) file.now }
 {

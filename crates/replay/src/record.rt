@@ -40,6 +40,7 @@ impl From<u8> for Call {
 }
 
 // The call that the head names, on a block and a memory.
+#[tactic(auto, unfolding(crate::specs::Asked::asked, crate::specs::Asked::answer_of))]
 fn made(head: &[u8; 16], block: &mut [u8], mem: &mut [u8]) -> u64
     ensures { called result block.new mem.new ≡ asked head.now block.old mem.old }
 {
@@ -56,6 +57,7 @@ fn made(head: &[u8; 16], block: &mut [u8], mem: &mut [u8]) -> u64
     }
 }
 
+#[tactic(auto, unfolding(manual::specs::Memory::value_at))]
 fn expected(head: &[u8; 16]) -> u64
     ensures { result ≡ value_at head.now 10 5 }
 {
