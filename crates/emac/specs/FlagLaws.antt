@@ -21,6 +21,9 @@ beyond H a o h = by-lt a (2 ^ 47)
     (λ j. rw (signed-neg (2 ^ 47) a l, le-ltb (2 ^ 48 - suc a) H (omega arith), le-leb H a (omega arith), lt-ltb a (2 ^ 48 - H) j))
     (λ j. rw (signed-neg (2 ^ 47) a l, lt-ltb (2 ^ 48 - suc a) H (omega arith), le-leb H a (omega arith), le-ltb a (2 ^ 48 - H) j)))
 
+pub not-below : (n a : ℕ) → not (nat_lt a n) ≡ nat_le n a
+not-below n a = by-lt a n (λ h. rw (lt-ltb a n h, lt-leb n a h)) (λ h. rw (le-ltb a n h, le-leb n a h))
+
 -- ---- PAVn, by the accumulator's number
 
 pub data Numbered (i : ℕ) : Type 0 where

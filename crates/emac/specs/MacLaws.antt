@@ -1,16 +1,17 @@
 -- An accumulator's number, a sum, and what is stored of it: what each way of the code is, in plain numbers. Assumes nothing.
-use Rattle.std.specs.Prelude.{◌≡◌, ℕ, zero, suc, ◌+◌, ◌-◌, ◌%◌, ◌^◌, ◌<◌, ◌≤◌, Bool, true, false, not, ◌&&◌, ◌||◌, List, [], ◌∷◌, ℤ, slice_index, slice_set, refl}
+use Rattle.std.specs.Prelude.{◌≡◌, ℕ, zero, suc, ◌+◌, ◌-◌, ◌%◌, ◌^◌, ◌<◌, ◌≤◌, Bool, true, false, not, ◌&&◌, ◌||◌, List, [], ◌∷◌, ℤ, nat_le, nat_lt, slice_index, slice_set, refl}
 use Rattle.std.proofs.Common.{sym, ◌∙◌, arith}
 use Rattle.std.proofs.Math.Path.{ap}
 use Rattle.manual.specs.declared.Mode.{Mode}
 use Rattle.manual.specs.declared.Emac.{Emac}
-use Rattle.manual.specs.Word.{negative}
-use Rattle.manual.specs.Emac.{mode_of, pav, scaled, scale_of, value_of, unsigned, in_range, acc_of, with_acc, with_flags, with_sum, accumulate}
-use Rattle.word.specs.RaisedLaws.{Up, plus, minus, signed_up}
-use Rattle.emac.specs.Sums.{IsValue, IsSum, IsStored, IsWithSum, IsSummed}
+use Rattle.manual.specs.Word.{mod_z, negative}
+use Rattle.manual.specs.Emac.{mode_of, pav, scaled, scale_of, value_of, unsigned, in_range, limit, acc_of, with_acc, with_flags, with_sum, accumulate}
+use Rattle.word.specs.RaisedLaws.{Up, plus, minus, up-negative, out-half, out-whole, signed_up}
+use Rattle.emac.specs.Sums.{IsValue, IsSum, IsOutside, IsStored, IsWithSum, IsSummed}
 use Rattle.emac.specs.declared.product.Raised.{Raised}
 use Rattle.emac.specs.Products.{far_product, far_sum, raised, IsScaledProduct}
 use Rattle.emac.specs.Overflow.{far_sum-is}
+use Rattle.emac.specs.RoundLaws.{mod_is}
 use Rattle.emac.specs.ProductLaws.{raised_is, up_of}
 use Rattle.emac.specs.declared.sum.AfterSum.{AfterSum}
 
@@ -49,6 +50,20 @@ module _ (sub : Bool) (c v : ℕ) where
 
   pub total : sub ≡ false → 2 ^ 52 ≤ c + v → IsSum sub c v (c + v - 0x10_0000_0000_0000)
   total e h = record { value = λ z w f g. rw e (plus (2 ^ 52) z w c v f g h) }
+
+module _ (k : Mode) (s : ℕ) where
+  pub outside-unsigned : unsigned k ≡ true → IsOutside k s (nat_lt s 0x10_0000_0000_0000 || nat_le 0x11_0000_0000_0000 s)
+  outside-unsigned e = record { value = λ z u. rw e (sym (out-whole (2 ^ 52) (2 ^ 48) z s u)) }
+
+  pub outside-signed : unsigned k ≡ false → IsOutside k s (nat_lt s 0xF_8000_0000_0000 || nat_le 0x10_8000_0000_0000 s)
+  outside-signed e = record { value = λ z u. rw e (sym (out-half (2 ^ 52) (2 ^ 47) z s (omega arith) u)) }
+
+  module _ (out : Bool) where
+    pub at-limit : (v : ℕ) → (out && k.omc) ≡ true → v ≡ mod_z (limit k (nat_lt s 0x10_0000_0000_0000)) (2 ^ 48) → IsStored k out s v
+    at-limit v e q = record { value = λ z u. rw (e, up-negative (2 ^ 52) z s u) q }
+
+    pub as_it_is : (out && k.omc) ≡ false → IsStored k out s (s % 0x1_0000_0000_0000)
+    as_it_is e = record { value = λ z u. rw (e, mod_is (2 ^ 4) (2 ^ 48) (omega arith) z s u) refl }
 
 -- ---- the parts put together: o, a, p, f and r are what the code finds
 

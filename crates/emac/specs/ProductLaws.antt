@@ -1,6 +1,6 @@
 -- The product of two longs as the code finds it, in each mode, and the scale factor: what each way is, in plain numbers. Assumes nothing.
-use Rattle.std.specs.Prelude.{◌≡◌, ℕ, suc, ◌+◌, ◌-◌, ◌*◌, ◌%◌, ◌^◌, ◌<◌, ◌≤◌, Bool, false, not, ◌&&◌, ◌||◌, ℤ, pos, negsuc, ◌*ℤ◌, nat_le, nat_lt, refl}
-use Rattle.std.proofs.Common.{sym, mul-le-mul, le_of_lt, lt_of_le_of_lt, mul-le-mul_left, mul-lt-mul_of_pos_right, arith, lit<}
+use Rattle.std.specs.Prelude.{◌≡◌, ℕ, suc, ◌+◌, ◌-◌, ◌*◌, ◌/◌, ◌%◌, ◌^◌, ◌<◌, ◌≤◌, Bool, true, false, not, ◌&&◌, ◌||◌, ℤ, pos, negsuc, ◌*ℤ◌, ◌≢◌, nat_le, nat_lt, refl}
+use Rattle.std.proofs.Common.{sym, mul-le-mul, le_of_lt, lt_of_le_of_lt, mul-le-mul_left, mul-lt-mul_of_pos_right, arith, lit<, lt-ltb, le-ltb, eq-eqb, ne_eqb}
 use Rattle.std.proofs.Math.Path.{ap}
 use Rattle.manual.specs.declared.Size.TheVariants.{Long}
 use Rattle.manual.specs.declared.Mode.{Mode}
@@ -8,10 +8,10 @@ use Rattle.manual.specs.Word.{signed, in_half}
 use Rattle.manual.specs.Emac.{product_over, scaled, scale_of}
 use Rattle.word.specs.SignedLaws.{signed_pos, signed-neg}
 use Rattle.word.specs.WordLaws.{cut_small}
-use Rattle.word.specs.RaisedLaws.{Up, higher, up_neg, out-half, signed_up}
-use Rattle.emac.specs.Products.{signed_product, far_product, raised, raised_product, IsNumber, IsScaled, IsScaledProduct}
+use Rattle.word.specs.RaisedLaws.{Up, higher, plus, up_neg, up-negative, out-half, signed_up}
+use Rattle.emac.specs.Products.{fraction, beyond, signed_product, unsigned_product, far_product, raised, raised_product, rounded_quotient, IsNumber, IsScaled, IsScaledProduct}
 use Rattle.emac.specs.declared.product.Raised.{Raised}
-use Rattle.emac.specs.RoundLaws.{mod_is}
+use Rattle.emac.specs.RoundLaws.{mod_is, halved, rounds, quotient-most}
 
 -- ---- the numbers of two longs, by the signs; q is the product of the magnitudes
 
@@ -45,6 +45,34 @@ module _ (x y q : ℕ) where
 
 -- ---- the fraction; p is the product raised by 2^62
 
+-- ---- the fraction; p is the product raised by 2^62
+
+pub fractional-is : (rt : Bool) (z : ℤ) (p : ℕ) → Up (2 ^ 62) z p → p ≤ 2 ^ 63
+    → IsNumber (fraction rt z) false (record { value = rounded_quotient rt (2 ^ 23) p + 0xF_FF80_0000_0000; over = false })
+fractional-is rt z p u h =
+    record {
+      value = higher (2 ^ 39) (2 ^ 52) (fraction rt z) (rounded_quotient rt (2 ^ 23) p) (omega arith) (rounds rt (2 ^ 38) (2 ^ 23) p z (omega arith) u);
+      over = refl;
+      low = omega arith;
+      high = omega (arith, quotient-most rt (2 ^ 23) p);
+    }
+
+-- ---- unsigned integers; n is the product
+
+module _ (omc : Bool) (n : ℕ) where
+  pub unsigned-fits : n < 2 ^ 40 → IsNumber (unsigned_product omc n) (not (nat_lt n (2 ^ 40))) (record { value = 0x10_0000_0000_0000 + n; over = false })
+  unsigned-fits h =
+      record { value = rw (lt-ltb n (2 ^ 40) h) (omega arith); over = rw (lt-ltb n (2 ^ 40) h) refl; low = omega arith; high = omega arith }
+
+  pub unsigned-over : 2 ^ 40 ≤ n → omc ≡ true → IsNumber (unsigned_product omc n) (not (nat_lt n (2 ^ 40))) (record { value = 0x14_0000_0000_0000; over = true })
+  unsigned-over h t =
+      record { value = rw (t, le-ltb n (2 ^ 40) h) refl; over = rw (le-ltb n (2 ^ 40) h) refl; low = omega arith; high = omega arith }
+
+  pub unsigned-wraps : 2 ^ 40 ≤ n → omc ≡ false
+      → IsNumber (unsigned_product omc n) (not (nat_lt n (2 ^ 40))) (record { value = 0x10_0000_0000_0000 + n % 0x100_0000_0000; over = true })
+  unsigned-wraps h t =
+      record { value = rw (t, le-ltb n (2 ^ 40) h) refl; over = rw (le-ltb n (2 ^ 40) h) refl; low = omega arith; high = omega arith }
+
 -- ---- signed integers; z is the product, and p is z raised by 2^62
 
 abbrev pub over40 : ℕ → Bool
@@ -54,10 +82,33 @@ module _ (omc : Bool) (z : ℤ) (p : ℕ) (u : Up (2 ^ 62) z p) where
   pub over-is : over40 p ≡ not (in_half (2 ^ 39) z)
   over-is = sym (out-half (2 ^ 62) (2 ^ 39) z p (omega arith) u)
 
+  saturates : (over40 p && omc) ≡ true → signed_product omc z ≡ beyond (nat_lt p (2 ^ 62))
+  saturates e = rw (← over-is, e, up-negative (2 ^ 62) z p u) refl
+
   wraps : (over40 p && omc) ≡ false → Up (2 ^ 39) (signed_product omc z) ((p + 2 ^ 39) % 2 ^ 40)
   wraps e =
       rw (← over-is, e, mod_is (2 ^ 22) (2 ^ 40) (omega arith) z p u)
       (signed_up (2 ^ 39) (2 ^ 39) (p % 2 ^ 40) ((p + 2 ^ 39) % 2 ^ 40) (λ h. omega arith) (λ h. omega arith) (omega arith))
+
+  pub signed_low : (over40 p && omc) ≡ true → p < 2 ^ 62
+      → IsNumber (signed_product omc z) (not (in_half (2 ^ 39) z)) (record { value = 0xB_FFFF_FFFF_FFFF; over = over40 p })
+  signed_low e h =
+      record {
+        value = rw (saturates e, lt-ltb p (2 ^ 62) h) refl;
+        over = over-is;
+        low = omega arith;
+        high = omega arith;
+      }
+
+  pub signed_high : (over40 p && omc) ≡ true → 2 ^ 62 ≤ p
+      → IsNumber (signed_product omc z) (not (in_half (2 ^ 39) z)) (record { value = 0x14_0000_0000_0000; over = over40 p })
+  signed_high e h =
+      record {
+        value = rw (saturates e, le-ltb p (2 ^ 62) h) refl;
+        over = over-is;
+        low = omega arith;
+        high = omega arith;
+      }
 
   pub signed-wraps : (over40 p && omc) ≡ false
       → IsNumber (signed_product omc z) (not (in_half (2 ^ 39) z))
@@ -69,6 +120,23 @@ module _ (omc : Bool) (z : ℤ) (p : ℕ) (u : Up (2 ^ 62) z p) where
         low = omega arith;
         high = omega arith;
       }
+
+-- ---- the scale factor
+
+module _ (s v : ℕ) (low : 2 ^ 52 - 2 ^ 50 - 1 ≤ v) (high : v ≤ 2 ^ 52 + 2 ^ 50) where
+  pub scaled-twice : s ≡ 1 → IsScaled s v (v + v - 0x10_0000_0000_0000)
+  scaled-twice e =
+      record { value = λ z u. rw (eq-eqb s 1 e) (plus (2 ^ 52) z z v v u u (omega arith)); low = omega arith; high = omega arith }
+
+  pub scaled-half : s ≡ 3 → IsScaled s v ((v + 0x10_0000_0000_0000) / 2)
+  scaled-half e =
+      record { value = λ z u. rw (ne_eqb s 1 (λ q. not-one q), eq-eqb s 3 e) (halved z v u); low = omega arith; high = omega arith }
+    where
+      not-one : s ≡ 1 → ⊥
+      not-one q = omega arith
+
+  pub scaled-once : (s ≢ 1) → (s ≢ 3) → IsScaled s v v
+  scaled-once e f = record { value = λ z u. rw (ne_eqb s 1 e, ne_eqb s 3 f) u; low = omega arith; high = omega arith }
 
 -- ---- the parts put together: p, w and v are what the code finds
 
