@@ -1,6 +1,4 @@
 // The accumulators by number, their physical registers ACCn and ACCextn, and the moves to them.
-#![tactic(auto, unfolding(manual::specs::Emac::acc_of, manual::specs::Emac::clear_acc, manual::specs::Emac::copy_acc, manual::specs::Emac::read_ext, manual::specs::Emac::set_acc, manual::specs::Emac::set_ext, manual::specs::Emac::set_macsr, manual::specs::Emac::set_mask, manual::specs::Emac::with_acc, manual::specs::Emac::with_ext))]
-
 ghost use Rattle.std.specs.Prelude.{◌≡◌, ◌+◌, ◌*◌, ◌/◌, ◌%◌, ◌^◌, ◌<◌};
 ghost use Rattle.manual.specs.Word.{mod_z};
 ghost use Rattle.manual.specs.Emac.{acc_of, with_acc, acc_part, ext_part, pattern_of, reinterpreted as reinterpreted_of, set_macsr, loaded_as, set_acc, copy_acc, clear_acc, read_ext, with_ext, set_ext, set_mask};

@@ -1,6 +1,4 @@
 // MACSR: the mode, PAVn, and the flags that an accumulator sets.
-#![tactic(auto, unfolding(manual::specs::Emac::mode_of, manual::specs::Emac::with_flags))]
-
 ghost use Rattle.std.specs.Prelude.{◌≡◌, ◌+◌, ◌*◌, ◌^◌, ◌<◌, ◌≤◌, ◌==◌, nat_le};
 ghost use Rattle.manual.specs.Word.{bit as bit_of};
 ghost use Rattle.manual.specs.Emac.{fractional as fractional_of, mode_of, unsigned as unsigned_of, pav as pav_of, with_pav, extension_in_use, with_flags as with_flags_of};

@@ -1,6 +1,4 @@
 // An accumulator's number in the state block: 64 bits of two's complement.
-#![tactic(auto, unfolding(manual::specs::Emac::block_in_range, manual::specs::Emac::block_number))]
-
 ghost use Rattle.std.specs.Prelude.{◌≡◌};
 ghost use Rattle.manual.specs.Emac.{block_number, block_in_range};
 

@@ -1,6 +1,4 @@
 // A word operand: the half of a register, as the long that it stands for.
-#![tactic(auto, unfolding(manual::specs::Emac::word_operand))]
-
 ghost use Rattle.std.specs.Prelude.{◌≡◌, ◌^◌, ◌<◌};
 ghost use Rattle.manual.specs.Emac.{half_of, word_operand};
 

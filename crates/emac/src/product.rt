@@ -1,7 +1,5 @@
 // The product of two longs, and the scale factor. A signed number z is computed as z + 2^52, which is not negative. With OMC a
 // product that overflows becomes one that is beyond any accumulator, so that the sum is out of range on its side.
-#![tactic(auto, unfolding(crate::specs::Products::raised_product))]
-
 ghost use Rattle.std.specs.Prelude.{◌≡◌, ◌+◌, ◌-◌, ◌*◌, ◌/◌, ◌%◌, ◌^◌, ◌<◌, ◌≤◌, true, false, not, ◌*ℤ◌, nat_lt};
 ghost use Rattle.manual.specs.declared.Size.TheVariants.{Long};
 ghost use Rattle.manual.specs.Word.{signed, in_half};

@@ -1,6 +1,4 @@
 // MOVE.L ACCy,Rx. Numbers are raised by 2^52.
-#![tactic(auto, unfolding(manual::specs::Emac::read_acc))]
-
 ghost use Rattle.std.specs.Prelude.{◌≡◌, ◌-◌, ◌*◌, ◌/◌, ◌%◌, ◌^◌, ◌<◌, ◌≤◌, ◌&&◌, cond, not};
 ghost use lib.Dec.{ltb};
 ghost use Rattle.manual.specs.Emac.{read_acc};

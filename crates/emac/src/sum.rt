@@ -1,6 +1,4 @@
 // MAC and MSAC: a product is added to an accumulator's number or taken from it. Numbers are raised by 2^52.
-#![tactic(auto, unfolding(manual::specs::Emac::acc_of, manual::specs::Emac::accumulate, manual::specs::Emac::with_acc))]
-
 ghost use Rattle.std.specs.Prelude.{◌≡◌, ◌+◌, ◌-◌, ◌^◌, ◌<◌, ◌≤◌, ◌&&◌, false};
 ghost use Rattle.manual.specs.Word.{mod_z};
 ghost use Rattle.manual.specs.Emac.{mode_of, pav as pav_of, value_of, limit as limit_of, emac_of, accumulate as accumulate_of};
