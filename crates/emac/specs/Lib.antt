@@ -7,5 +7,6 @@ pub mod Sums
 pub mod Overflow
 pub mod MacLaws
 pub mod Parts
+pub mod NumberLaws
 pub mod EmacKept
 pub mod BlockLaws

@@ -1,5 +1,5 @@
 -- An accumulator's number, a sum, and what is stored of it: what each way of the code is, in plain numbers. Assumes nothing.
-use Rattle.std.specs.Prelude.{◌≡◌, ℕ, zero, suc, ◌+◌, ◌-◌, ◌%◌, ◌^◌, ◌<◌, ◌≤◌, Bool, true, false, not, ◌&&◌, ◌||◌, List, [], ◌∷◌, ℤ, nat_le, nat_lt, slice_index, slice_set, refl}
+use Rattle.std.specs.Prelude.{◌≡◌, ℕ, zero, suc, ◌+◌, ◌-◌, ◌%◌, ◌^◌, ◌<◌, ◌≤◌, Bool, true, false, not, ◌&&◌, ◌||◌, List, [], ◌∷◌, ℤ, pos, negsuc, nat_le, nat_lt, slice_index, slice_set, refl}
 use Rattle.std.proofs.Common.{sym, ◌∙◌, arith}
 use Rattle.std.proofs.Math.Path.{ap}
 use Rattle.manual.specs.declared.Mode.{Mode}
@@ -11,7 +11,6 @@ use Rattle.emac.specs.Sums.{IsValue, IsSum, IsOutside, IsStored, IsWithSum, IsSu
 use Rattle.emac.specs.declared.product.Raised.{Raised}
 use Rattle.emac.specs.Products.{far_product, far_sum, raised, IsScaledProduct}
 use Rattle.emac.specs.Overflow.{far_sum-is}
-use Rattle.emac.specs.RoundLaws.{mod_is}
 use Rattle.emac.specs.ProductLaws.{raised_is, up_of}
 use Rattle.emac.specs.declared.sum.AfterSum.{AfterSum}
 
@@ -51,6 +50,11 @@ module _ (sub : Bool) (c v : ℕ) where
   pub total : sub ≡ false → 2 ^ 52 ≤ c + v → IsSum sub c v (c + v - 0x10_0000_0000_0000)
   total e h = record { value = λ z w f g. rw e (plus (2 ^ 52) z w c v f g h) }
 
+-- the low 48 bits of a sum are those of the raised sum
+mod48 : (z : ℤ) (r : ℕ) → Up (2 ^ 52) z r → mod_z z (2 ^ 48) ≡ r % 2 ^ 48
+mod48 (pos n) r u = omega arith
+mod48 (negsuc n) r u = omega arith
+
 module _ (k : Mode) (s : ℕ) where
   pub outside-unsigned : unsigned k ≡ true → IsOutside k s (nat_lt s 0x10_0000_0000_0000 || nat_le 0x11_0000_0000_0000 s)
   outside-unsigned e = record { value = λ z u. rw e (sym (out-whole (2 ^ 52) (2 ^ 48) z s u)) }
@@ -63,15 +67,22 @@ module _ (k : Mode) (s : ℕ) where
     at-limit v e q = record { value = λ z u. rw (e, up-negative (2 ^ 52) z s u) q }
 
     pub as_it_is : (out && k.omc) ≡ false → IsStored k out s (s % 0x1_0000_0000_0000)
-    as_it_is e = record { value = λ z u. rw (e, mod_is (2 ^ 4) (2 ^ 48) (omega arith) z s u) refl }
+    as_it_is e = record { value = λ z u. rw (e, mod48 z s u) refl }
 
 -- ---- the parts put together: o, a, p, f and r are what the code finds
 
-pub with_sum-is : (k : Mode) (m i s : ℕ) (over out : Bool) (a f : ℕ)
+pub with_sum-is : (k : Mode) (m i s : ℕ) (over o : Bool) (a : ℕ) (p : Bool) (f : ℕ)
+    → IsOutside k s o → IsStored k (over || o) s a → p ≡ pav m i → f ≡ with_flags k m i ((over || o) || p) a
+    → IsWithSum k m i over s (record { macsr = f; acc = a })
+unfolding with_sum
+with_sum-is k m i s over o a p f ho ha ep ef = record { value = λ z u e em. rw (em, ef, ep, ha.value z u, ho.value z u) }
+
+-- the same, where one test finds both overflows
+pub with_sum-by : (k : Mode) (m i s : ℕ) (over out : Bool) (a f : ℕ)
     → ((z : ℤ) → Up (2 ^ 52) z s → out ≡ (over || not (in_range k z))) → IsStored k out s a → f ≡ with_flags k m i (out || pav m i) a
     → IsWithSum k m i over s (record { macsr = f; acc = a })
 unfolding with_sum
-with_sum-is k m i s over out a f ho ha ef = record { value = λ z u e em. rw (em, ef, ha.value z u, ho z u) }
+with_sum-by k m i s over out a f ho ha ef = record { value = λ z u e em. rw (em, ef, ha.value z u, ho z u) }
 
 set_same : (l : List ℕ) (n : ℕ) → slice_set l n (slice_index l n) ≡ l
 set_same [] n = refl

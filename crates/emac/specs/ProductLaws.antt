@@ -5,13 +5,13 @@ use Rattle.std.proofs.Math.Path.{ap}
 use Rattle.manual.specs.declared.Size.TheVariants.{Long}
 use Rattle.manual.specs.declared.Mode.{Mode}
 use Rattle.manual.specs.Word.{signed, in_half}
-use Rattle.manual.specs.Emac.{product_over, scaled, scale_of}
+use Rattle.manual.specs.Emac.{product_over, scaled, scale_of, rounds_up}
 use Rattle.word.specs.SignedLaws.{signed_pos, signed-neg}
 use Rattle.word.specs.WordLaws.{cut_small}
 use Rattle.word.specs.RaisedLaws.{Up, higher, plus, up_neg, up-negative, out-half, signed_up}
-use Rattle.emac.specs.Products.{fraction, beyond, signed_product, unsigned_product, far_product, raised, raised_product, rounded_quotient, IsNumber, IsScaled, IsScaledProduct}
+use Rattle.emac.specs.Products.{fraction, beyond, signed_product, unsigned_product, far_product, raised, raised_product, IsFraction, IsNumber, IsScaled, IsScaledProduct}
 use Rattle.emac.specs.declared.product.Raised.{Raised}
-use Rattle.emac.specs.RoundLaws.{mod_is, halved, rounds, quotient-most}
+use Rattle.emac.specs.RoundLaws.{floor23, mod23, odd23, mod40, halved, round_up, round_down}
 
 -- ---- the numbers of two longs, by the signs; q is the product of the magnitudes
 
@@ -43,18 +43,23 @@ module _ (x y q : ℕ) where
   pub neg-neg : 2 ^ 31 ≤ x → x < 2 ^ 32 → 2 ^ 31 ≤ y → y < 2 ^ 32 → q ≡ (2 ^ 32 - x) * (2 ^ 32 - y) → Up (2 ^ 62) (signed Long x *ℤ signed Long y) (2 ^ 62 + q)
   neg-neg nx hx ny hy e = rw (long-neg x nx hx, long-neg y ny hy, suc_less x hx, suc_less y hy, e) refl
 
--- ---- the fraction; p is the product raised by 2^62
+-- ---- the fraction
 
--- ---- the fraction; p is the product raised by 2^62
+module _ (rt : Bool) (p : ℕ) (h : p ≤ 2 ^ 63) where
+  pub fraction-up : (rt && rounds_up (2 ^ 23) (p % 2 ^ 23) (p / 2 ^ 23 % 2)) ≡ true → IsFraction rt p (p / 2 ^ 23 + 1)
+  fraction-up t = record { value = λ z u. round_up rt (2 ^ 23) (2 ^ 39) p z (floor23 z p u) (mod23 z p u) (odd23 z p u) t; high = omega arith }
 
-pub fractional-is : (rt : Bool) (z : ℤ) (p : ℕ) → Up (2 ^ 62) z p → p ≤ 2 ^ 63
-    → IsNumber (fraction rt z) false (record { value = rounded_quotient rt (2 ^ 23) p + 0xF_FF80_0000_0000; over = false })
-fractional-is rt z p u h =
+  pub fraction-down : (rt && rounds_up (2 ^ 23) (p % 2 ^ 23) (p / 2 ^ 23 % 2)) ≡ false → IsFraction rt p (p / 2 ^ 23)
+  fraction-down t = record { value = λ z u. round_down rt (2 ^ 23) (2 ^ 39) p z (floor23 z p u) (mod23 z p u) (odd23 z p u) t; high = omega arith }
+
+pub fractional-is : (rt : Bool) (z : ℤ) (p f : ℕ) → Up (2 ^ 62) z p → IsFraction rt p f
+    → IsNumber (fraction rt z) false (record { value = f + 0xF_FF80_0000_0000; over = false })
+fractional-is rt z p f u h =
     record {
-      value = higher (2 ^ 39) (2 ^ 52) (fraction rt z) (rounded_quotient rt (2 ^ 23) p) (omega arith) (rounds rt (2 ^ 38) (2 ^ 23) p z (omega arith) u);
+      value = higher (2 ^ 39) (2 ^ 52) (fraction rt z) f (omega arith) (h.value z u);
       over = refl;
-      low = omega arith;
-      high = omega (arith, quotient-most rt (2 ^ 23) p);
+      low = omega (arith, h.high);
+      high = omega (arith, h.high);
     }
 
 -- ---- unsigned integers; n is the product
@@ -87,7 +92,7 @@ module _ (omc : Bool) (z : ℤ) (p : ℕ) (u : Up (2 ^ 62) z p) where
 
   wraps : (over40 p && omc) ≡ false → Up (2 ^ 39) (signed_product omc z) ((p + 2 ^ 39) % 2 ^ 40)
   wraps e =
-      rw (← over-is, e, mod_is (2 ^ 22) (2 ^ 40) (omega arith) z p u)
+      rw (← over-is, e, mod40 z p u)
       (signed_up (2 ^ 39) (2 ^ 39) (p % 2 ^ 40) ((p + 2 ^ 39) % 2 ^ 40) (λ h. omega arith) (λ h. omega arith) (omega arith))
 
   pub signed_low : (over40 p && omc) ≡ true → p < 2 ^ 62

@@ -41,6 +41,11 @@ raised B (negsuc n) = B - suc n
 unfoldable pub raised_product : Mode → ℕ → ℕ → ℕ → Raised
 raised_product k s x y = record { value = raised (2 ^ 52) (scaled (scale_of k s) (far_product k x y)); over = product_over k x y }
 
+-- p is a product raised by 2^62, and r its fraction raised by 2^39
+pub record IsFraction (rt : Bool) (p r : ℕ) : Type 0 where
+  pub value : (z : ℤ) → Up (2 ^ 62) z p → Up (2 ^ 39) (fraction rt z) r
+  pub high : r ≤ 2 ^ 40 + 1
+
 -- r over m, to the nearest where rt: `RoundLaws` has that it is so of raised numbers
 abbrev pub rounded_quotient : Bool → ℕ → ℕ → ℕ
 rounded_quotient rt m r = cond (rt && rounds_up m (r % m) (r / m % 2)) (r / m + 1) (r / m)

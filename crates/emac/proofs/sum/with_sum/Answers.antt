@@ -1,7 +1,7 @@
 use Rattle.std.proofs.Common.{◌≡◌, ◌^◌, ◌||◌, not, ℤ}
 use Rattle.manual.specs.Emac.{in_range, pav}
 use Rattle.word.specs.RaisedLaws.{Up}
-use Rattle.emac.specs.MacLaws.{with_sum-is}
+use Rattle.emac.specs.MacLaws.{with_sum-by}
 use Rattle.emac.proofs.sum.with_sum.Goals.{then-over, else-over, then-out, else-out}
 use Rattle.emac.proofs.sum.with_sum.Goals as goal
 
@@ -18,4 +18,4 @@ returns c =
       | then-out w ↦ rw (w.with_flags-is, w.if-out.true)
       | else-out w ↦ rw (w.with_flags-is, w.if-out.false) w.pav.ensures
     ] in
-    with_sum-is x.k x.m x.i x.s x.over _ _ _ o c.stored-acc.ensures (rw (← p) c.with_flags-macsr.ensures)
+    with_sum-by x.k x.m x.i x.s x.over _ _ _ o c.stored-acc.ensures (rw (← p) c.with_flags-macsr.ensures)
