@@ -3,15 +3,15 @@
 The theorems of `demands` speak of the definition alone, so the functions are taken out of the copy that a wrong definition is tried in.
 With them a wrong definition would be refused below, where a function is proved to equal it, and no theorem would be reached.
 
-Left of a .rt file, in the layout of `rt fmt`, are its types, constants and modules, and of its imports what these name. Functions, impls,
-traits, macros and modules of tests go, and so does the crate's folder proofs/.
+Left of a .rt file, in the layout of `rt fmt`, are its types with what contracts see of them (`impl Model`), constants and modules, and of
+its imports what these name. Functions, other impls, traits, macros and modules of tests go, and so does the crate's folder proofs/.
 """
 import glob
 import os
 import re
 import shutil
 
-LEFT = re.compile(r"^(?:pub(?:\([^)]*\))? )?(?:mod \w+;|(?:struct|enum|type)\b|const (?!fn\b)|(?:ghost )?use\b)", re.M)
+LEFT = re.compile(r"^(?:pub(?:\([^)]*\))? )?(?:mod \w+;|(?:struct|enum|type)\b|const (?!fn\b)|(?:ghost )?use\b|impl\b.* Model for\b)", re.M)
 IMPORT = re.compile(r"^((?:pub(?:\([^)]*\))? |ghost )?use [^;{]*?)(?:\{([^}]*)\}|([^:.;{}]+));", re.M)
 
 

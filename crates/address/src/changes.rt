@@ -18,8 +18,8 @@ pub fn done(next: u32, codes: u32, first: Write, second: Write) -> Change
     Change {
         pc: next,
         ccr: codes,
-        first: first,
-        second: second,
+        first,
+        second,
         action: Action::Nothing,
     }
 }
@@ -31,8 +31,8 @@ pub fn store(next: u32, codes: u32, first: Write, second: Write, at: u32, z: Siz
     Change {
         pc: next,
         ccr: codes,
-        first: first,
-        second: second,
+        first,
+        second,
         action: Action::Store(at, z, v),
     }
 }
@@ -42,13 +42,12 @@ pub fn acting(sr: u16, next: u32, first: Write, action: Action) -> Change
     ensures { result ≡ acting_of sr next first action }
 {
     let codes = kept_codes(sr);
-    let none = no_write();
     Change {
         pc: next,
         ccr: codes,
-        first: first,
-        second: none,
-        action: action,
+        first,
+        second: no_write(),
+        action,
     }
 }
 
@@ -83,12 +82,11 @@ pub fn privilege(at: u32, sr: u16) -> Change
 fn refuse(n: Reply) -> Change
     ensures { result ≡ refuse_of n }
 {
-    let none = no_write();
     Change {
         pc: 0,
         ccr: 0,
-        first: none,
-        second: none,
+        first: no_write(),
+        second: no_write(),
         action: Action::Refuse(n),
     }
 }
@@ -104,8 +102,7 @@ pub fn refused(x: Fault) -> Change
 pub fn jump(sr: u16, next: u32) -> Change
     ensures { result ≡ jump_of sr next }
 {
-    let none = no_write();
-    done(next, kept_codes(sr), none, none)
+    done(next, kept_codes(sr), no_write(), no_write())
 }
 
 // A change that pushes a long, and goes on at `next`.
@@ -150,7 +147,5 @@ pub fn put(
 pub fn put_to(g: &[u32; 16], codes: u32, to: Destination, z: Size, v: u32) -> Change
     ensures { result ≡ put_to g.now codes to z v }
 {
-    let place = to.place;
-    let first = to.moved;
-    put(g, to.next, codes, first, no_write(), place, z, v)
+    put(g, to.next, codes, to.moved, no_write(), to.place, z, v)
 }

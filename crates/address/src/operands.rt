@@ -56,12 +56,7 @@ pub fn extension(o: Operand, z: Size) -> u32
 fn scaled(x: u32, scale: u32) -> u32
     ensures { result ≡ x * 2 ^ (scale % 4) % 2 ^ 32 }
 {
-    match scale % 4 {
-        0 => x,
-        1 => ((x as u64) * 2 % 0x1_0000_0000) as u32,
-        2 => ((x as u64) * 4 % 0x1_0000_0000) as u32,
-        _ => ((x as u64) * 8 % 0x1_0000_0000) as u32,
-    }
+    x << (scale % 4)
 }
 
 fn index(g: &[u32; 16], w: u32) -> u32
@@ -177,18 +172,15 @@ pub fn control(g: &[u32; 16], mem: &[u8], pc: u32, o: Operand) -> Option<Result<
     }
 }
 
-// Every mode, by the plain leaves.
+// Every mode, by the plain leaves. `destination` is alike, but a Destination holds a place where a Source holds a value.
 fn source_by_leaves(g: &[u32; 16], mem: &[u8], pc: u32, op: u32, z: Size) -> Source
     ensures { result ≡ source_of g.now (mapped mem.now) pc op z }
 {
     let o = operand(op / 8 % 8, op % 8);
-    let got = value(g, mem, pc, o, z);
-    let next = plus(pc, extension(o, z));
-    let moves = moved(g, o, z);
     Source {
-        got: got,
-        next: next,
-        moved: moves,
+        got: value(g, mem, pc, o, z),
+        next: plus(pc, extension(o, z)),
+        moved: moved(g, o, z),
     }
 }
 
@@ -197,57 +189,38 @@ fn source_by_leaves(g: &[u32; 16], mem: &[u8], pc: u32, op: u32, z: Size) -> Sou
 pub fn source(g: &[u32; 16], mem: &[u8], pc: u32, op: u32, z: Size) -> Source
     ensures { result ≡ source_of g.now (mapped mem.now) pc op z }
 {
+    let r = op % 8;
+    let next = plus(pc, 0);
     match op / 8 % 8 {
-        0 => {
-            let got = Ok(cut(z, data(g, op % 8)));
-            let none = no_write();
-            let next = plus(pc, 0);
-            Source {
-                got: got,
-                next: next,
-                moved: none,
-            }
-        }
-        1 => {
-            let got = Ok(cut(z, address(g, op % 8)));
-            let none = no_write();
-            let next = plus(pc, 0);
-            Source {
-                got: got,
-                next: next,
-                moved: none,
-            }
-        }
-        2 => {
-            let got = load(mem, address(g, op % 8), z);
-            let none = no_write();
-            let next = plus(pc, 0);
-            Source {
-                got: got,
-                next: next,
-                moved: none,
-            }
-        }
+        0 => Source {
+            got: Ok(cut(z, data(g, r))),
+            next,
+            moved: no_write(),
+        },
+        1 => Source {
+            got: Ok(cut(z, address(g, r))),
+            next,
+            moved: no_write(),
+        },
+        2 => Source {
+            got: load(mem, address(g, r), z),
+            next,
+            moved: no_write(),
+        },
         3 => {
-            let a = address(g, op % 8);
-            let got = load(mem, a, z);
-            let up = write_address(op % 8, plus(a, bytes(z)));
-            let next = plus(pc, 0);
+            let a = address(g, r);
             Source {
-                got: got,
-                next: next,
-                moved: up,
+                got: load(mem, a, z),
+                next,
+                moved: write_address(r, plus(a, bytes(z))),
             }
         }
         4 => {
-            let a = minus(address(g, op % 8), bytes(z));
-            let got = load(mem, a, z);
-            let down = write_address(op % 8, a);
-            let next = plus(pc, 0);
+            let a = minus(address(g, r), bytes(z));
             Source {
-                got: got,
-                next: next,
-                moved: down,
+                got: load(mem, a, z),
+                next,
+                moved: write_address(r, a),
             }
         }
         _ => source_by_leaves(g, mem, pc, op, z),
@@ -259,12 +232,9 @@ pub fn destination(g: &[u32; 16], mem: &[u8], pc: u32, op: u32, z: Size) -> Dest
     ensures { result ≡ destination_of g.now (mapped mem.now) pc op z }
 {
     let o = operand(op / 8 % 8, op % 8);
-    let place = locate(g, mem, pc, o, z);
-    let next = plus(pc, extension(o, z));
-    let moves = moved(g, o, z);
     Destination {
-        place: place,
-        next: next,
-        moved: moves,
+        place: locate(g, mem, pc, o, z),
+        next: plus(pc, extension(o, z)),
+        moved: moved(g, o, z),
     }
 }

@@ -1,5 +1,6 @@
 // Quotients and remainders of longs by longs and by words.
 #![tactic(auto, unfolding(manual::specs::Divide::overflow_codes, manual::specs::Divide::quotient, manual::specs::Divide::signed_quotient, manual::specs::Divide::signed_word_quotient, manual::specs::Divide::word_quotient))]
+
 ghost use Rattle.std.specs.Prelude.{◌≡◌, ◌<◌, Some, nat_abs};
 ghost use Rattle.manual.specs.Word.{signed};
 ghost use Rattle.manual.specs.declared.Size.TheVariants.{Long};
@@ -12,7 +13,10 @@ use word::word::{minus, plus, sign_extended};
 fn fitting(quotient: u32, remainder: u32) -> Option<Quotient>
     ensures { result ≡ Some (record { quotient = quotient; remainder = remainder }) }
 {
-    Some(Quotient { quotient, remainder })
+    Some(Quotient {
+        quotient,
+        remainder,
+    })
 }
 
 // DIVU.L, REMU.L.

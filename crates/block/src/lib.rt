@@ -4,3 +4,7 @@
 mod number;
 pub mod read;
 pub mod store;
+
+use manual::block_places;
+
+pub(crate) type Block = [u8; block_places::BLOCK_BYTES];

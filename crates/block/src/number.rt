@@ -1,26 +1,20 @@
-// Numbers of up to eight bytes, big-endian.
-ghost use Rattle.std.specs.Prelude.{◌≡◌, ◌+◌, ◌≤◌, ◌<◌, length};
+// Numbers of up to eight bytes, big-endian: one function for every width, as the definition has.
+ghost use Rattle.std.specs.Prelude.{◌≡◌, ◌+◌, ◌≤◌, length};
 ghost use Rattle.manual.specs.Memory.{value_at};
 
-fn wide(b: u8) -> u64
-    ensures { (result ≡ b) × (result < 0x100) }
-{
-    b as u64
-}
-
+#[tactic(auto, unfolding(manual::specs::Memory::value_at))]
 pub(crate) fn read_number(bytes: &[u8], at: usize, n: usize) -> u64
     requires { (n ≤ 8) × (at + n ≤ length bytes.now) }
     ensures { result ≡ value_at bytes.now at n }
 {
     let mut v: u64 = 0;
-    let mut k: usize = 0;
-    while k < n {
-        v = v * 0x100 + wide(bytes[at + k]);
-        k += 1;
+    for k in 0..n {
+        v = v * 0x100 + bytes[at + k] as u64;
     }
     v
 }
 
+#[tactic(auto, unfolding(manual::specs::Memory::value_at))]
 pub(crate) fn byte_at(bytes: &[u8], at: usize) -> u8
     requires { at + 1 ≤ length bytes.now }
     ensures { result ≡ value_at bytes.now at 1 }

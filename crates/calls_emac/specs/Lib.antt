@@ -1,1 +1,2 @@
 pub mod CallsKept
+pub mod Refused

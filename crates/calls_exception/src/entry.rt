@@ -1,4 +1,6 @@
 // The calls that enter an exception and return from it.
+#![tactic(auto, unfolding(manual::specs::Exceptions::exception, manual::specs::Exceptions::interrupt, manual::specs::Exceptions::masked, manual::specs::Exceptions::rte))]
+
 ghost use Rattle.std.specs.Prelude.{◌≡◌};
 ghost use Rattle.manual.specs.Reply.{outcome};
 ghost use Rattle.manual.specs.Lent.{lent};

@@ -1,5 +1,5 @@
 // The calls that push a long on the stack and pop it, refusals first.
-#![tactic(auto)]
+#![tactic(auto, unfolding(manual::specs::Exceptions::pop32, manual::specs::Exceptions::push32))]
 
 ghost use Rattle.std.specs.Prelude.{◌≡◌};
 ghost use Rattle.manual.specs.Reply.{outcome};
@@ -41,9 +41,9 @@ fn not_popped(cpu: Cpu, reply: Reply) -> Popped
     ensures { result ≡ not_popped cpu reply }
 {
     Popped {
-        reply: reply,
+        reply,
         value: 0,
-        cpu: cpu,
+        cpu,
     }
 }
 

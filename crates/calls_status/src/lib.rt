@@ -8,34 +8,35 @@ use manual::{Answer, Cpu, Reply, Told};
 use state::status::{admitted, with_status};
 
 // The state with the bits of 0xB71F of a status register, the stack pointers swapped where S changes; refused with 2.
+#[tactic(auto, unfolding(manual::specs::Exceptions::set_sr_call))]
 pub fn set_sr(cpu: Cpu, v: u16) -> Answer
     ensures { result ≡ set_sr_call cpu v }
 {
-    if admitted(cpu) {
-        let next = with_status(cpu, v as u32);
+    if !admitted(cpu) {
         return Answer {
-            reply: Reply::Done,
-            cpu: next,
+            reply: Reply::NotAdmitted,
+            cpu,
         };
     }
     Answer {
-        reply: Reply::NotAdmitted,
-        cpu: cpu,
+        reply: Reply::Done,
+        cpu: with_status(cpu, v as u32),
     }
 }
 
-fn told(cpu: Cpu, v: u64) -> Told
-    ensures { result ≡ told_of cpu v }
+#[tactic(auto, unfolding(manual::specs::Exceptions::told))]
+fn told(cpu: Cpu, value: u64) -> Told
+    ensures { result ≡ told_of cpu value }
 {
-    if admitted(cpu) {
+    if !admitted(cpu) {
         return Told {
-            reply: Reply::Done,
-            value: v,
+            reply: Reply::NotAdmitted,
+            value: 0,
         };
     }
     Told {
-        reply: Reply::NotAdmitted,
-        value: 0,
+        reply: Reply::Done,
+        value,
     }
 }
 
@@ -47,6 +48,7 @@ pub fn ipl(cpu: Cpu) -> Told
 }
 
 // S as 1 or 0; refused with 2.
+#[tactic(auto, using(crate::proofs::StatusLaws::one_bit))]
 pub fn supervisor(cpu: Cpu) -> Told
     ensures { result ≡ supervisor_call cpu }
 {

@@ -12,7 +12,5 @@ fn main(rt: HostRuntime) -> io::Result<()> {
     let mut input = [0u8; 65_536];
     let n = read_full(&mut rt.stdin(), &mut input)?;
     let mut mem = [0u8; 49_152];
-    let text = answer(&input[..n], &mut mem);
-    let bytes = text.bytes;
-    rt.write_all(&bytes[..text.len])
+    rt.print(answer(&input[..n], &mut mem))
 }

@@ -1,27 +1,23 @@
 // What the program `coreimage` does with the bytes that it was given.
 ghost use Rattle.std.specs.Prelude.{◌≡◌};
-ghost use Rattle.manual.specs.Image.{printed};
+ghost use Rattle.manual.specs.Image.{text_of};
 ghost use Rattle.instructions.specs.ImageRun.{image_run, image_ran};
 
 use image::Text;
 use image::file::read_image;
 use image::print::{answer_text, run_text};
 use machine::run::run;
-use state::replies::is_done;
 
 // The text of the run of an image file, or the first line alone where the file is refused.
 // `mem` has 49,152 bytes; whatever is in it, the file's bytes and zeros take its place.
 pub fn answer(file: &[u8], mem: &mut [u8]) -> Text
-    ensures { image_ran (printed result.bytes result.len) mem.new ≡ image_run file.now mem.old }
+    ensures { image_ran (text_of result.bytes) mem.new ≡ image_run file.now mem.old }
 {
-    let loaded = read_image(file, mem);
-    let reply = loaded.reply;
-    if !is_done(reply) {
-        return answer_text(reply);
+    match read_image(file, mem) {
+        Ok(loaded) => {
+            let ran = run(loaded.cpu, mem, loaded.budget);
+            run_text(ran.reply, ran.count, ran.cpu)
+        }
+        Err(reply) => answer_text(reply),
     }
-    let cpu = loaded.cpu;
-    let ran = run(cpu, mem, loaded.budget);
-    let ended = ran.reply;
-    let last = ran.cpu;
-    run_text(ended, ran.count, last)
 }

@@ -1,17 +1,17 @@
 // What the program `coresrecord` does with the bytes that it was given.
-ghost use Rattle.std.specs.Prelude.{◌≡◌, [], ◌∷◌, ◌≤◌, length};
-ghost use Rattle.manual.specs.Memory.{value_at};
-ghost use Rattle.manual.specs.Image.{printed, text_of};
+ghost use Rattle.std.specs.Prelude.{◌≡◌, ◌++◌};
+ghost use Rattle.manual.specs.Image.{text_of};
 ghost use Rattle.instructions.specs.ImageRun.{image_ran};
-ghost use Rattle.srecord.specs.TextRun.{status_at, text_at, text_state, text_answer, text_ran, text_run};
+ghost use Rattle.srecord.specs.TextRun.{text_state, text_answer, text_ran, text_run};
 
 use image::Text;
 use image::print::{answer_text, run_text};
+use itoa::Buffer;
 use machine::run::run;
 use manual::{Cpu, Reply};
 use memory::long_at;
 use srecord::TextReply;
-use srecord_line::replies::text_done;
+use srecord_line::replies::{text_done, text_number};
 use srecord_read::read::read;
 use state::fresh::fresh;
 use state::status::admitted;
@@ -28,85 +28,49 @@ const TEXT_AT: usize = 10;
 
 const TEXT_MOST: usize = 0x10_0000;
 
-fn status_at(input: &[u8]) -> u16
-    requires { text_at ≤ length input.now }
-    ensures { result ≡ value_at input.now status_at 2 }
+fn text_state(head: &[u8; TEXT_AT], start: u32) -> Cpu
+    ensures { result ≡ text_state head.now start }
 {
-    input[STATUS_AT] as u16 * 0x100 + input[STATUS_AT + 1] as u16
-}
-
-fn text_state(input: &[u8], start: u32) -> Cpu
-    requires { text_at ≤ length input.now }
-    ensures { result ≡ text_state input.now start }
-{
-    let a7 = long_at(input, STACK_AT);
-    let sr = status_at(input);
-    with_sr(with_pc(with_address(fresh(), 7, a7), start), sr)
-}
-
-// "answer 1" and one digit more.
-fn answer_from_ten(last: u8) -> Text
-    ensures { printed result.bytes result.len ≡ text_of (97 ∷ 110 ∷ 115 ∷ 119 ∷ 101 ∷ 114 ∷ 32 ∷ 49 ∷ last ∷ 10 ∷ []) }
-{
-    let mut bytes = [0u8; 256];
-    bytes[0] = b'a';
-    bytes[1] = b'n';
-    bytes[2] = b's';
-    bytes[3] = b'w';
-    bytes[4] = b'e';
-    bytes[5] = b'r';
-    bytes[6] = b' ';
-    bytes[7] = b'1';
-    bytes[8] = last;
-    bytes[9] = b'\n';
-    Text {
-        bytes: bytes,
-        len: 10,
-    }
+    let sr = u16::from_be_bytes([head[STATUS_AT], head[STATUS_AT + 1]]);
+    let cpu = with_address(fresh(), 7, long_at(head, STACK_AT));
+    with_sr(with_pc(cpu, start), sr)
 }
 
 fn refused_text(reply: TextReply) -> Text
-    ensures { printed result.bytes result.len ≡ text_of (text_answer reply) }
+    ensures { result.bytes ≡ text_answer reply }
 {
-    match reply {
-        TextReply::Done => answer_text(Reply::Done),
-        TextReply::TooLong => answer_text(Reply::TooLong),
-        TextReply::NotInside => answer_text(Reply::NotInside),
-        TextReply::Malformed => answer_from_ten(b'0'),
-        TextReply::WrongSum => answer_from_ten(b'1'),
-        TextReply::NoRoom => answer_from_ten(b'6'),
-    }
+    let mut text = Text::new();
+    text.push_str("answer ");
+    text.push_str(Buffer::new().format(text_number(reply)));
+    text.push('\n');
+    text
 }
 
-fn read_and_run(input: &[u8], mem: &mut [u8]) -> Text
-    requires { text_at ≤ length input.now }
-    ensures { image_ran (printed result.bytes result.len) mem.new ≡ text_ran input.now mem.old }
+fn read_and_run(head: &[u8; TEXT_AT], text: &[u8], mem: &mut [u8]) -> Text
+    ensures { image_ran (text_of result.bytes) mem.new ≡ text_ran (head.now ++ text.now) mem.old }
 {
-    let found = read(&input[TEXT_AT..], mem);
-    let reply = found.reply;
-    if !text_done(reply) {
-        return refused_text(reply);
+    let found = read(text, mem);
+    if !text_done(found.reply) {
+        return refused_text(found.reply);
     }
-    let cpu = text_state(input, found.start);
-    let ran = run(cpu, mem, long_at(input, BUDGET_AT));
-    let ended = ran.reply;
-    let last = ran.cpu;
-    run_text(ended, ran.count, last)
+    let cpu = text_state(head, found.start);
+    let ran = run(cpu, mem, long_at(head, BUDGET_AT));
+    run_text(ran.reply, ran.count, ran.cpu)
 }
 
 // The text of the run of S-records, or the first line alone where they, or what stands before them, are refused.
 // Memory is read into as it is: the program lends zeros.
 pub fn answer(input: &[u8], mem: &mut [u8]) -> Text
-    ensures { image_ran (printed result.bytes result.len) mem.new ≡ text_run input.now mem.old }
+    ensures { image_ran (text_of result.bytes) mem.new ≡ text_run input.now mem.old }
 {
-    if input.len() < TEXT_AT {
+    let Some((head, text)) = input.split_first_chunk::<TEXT_AT>() else {
+        return answer_text(Reply::WrongLength);
+    };
+    if text.len() > TEXT_MOST {
         return answer_text(Reply::WrongLength);
     }
-    if TEXT_AT + TEXT_MOST < input.len() {
-        return answer_text(Reply::WrongLength);
+    if !admitted(text_state(head, 0)) {
+        return answer_text(Reply::NotAdmitted);
     }
-    if admitted(text_state(input, 0)) {
-        return read_and_run(input, mem);
-    }
-    answer_text(Reply::NotAdmitted)
+    read_and_run(head, text, mem)
 }

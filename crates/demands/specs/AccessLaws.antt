@@ -22,10 +22,10 @@ use Rattle.demands.specs.Exact.{Bytes}
 -- ---- an access goes by the length of storage, and lies at its address
 
 pub here_or_not : (p : ℕ) (x : Fault) → Ok p ≡ Err x → ⊥
-here_or_not p x e = let z : ◌≡◌ {A = ℕ} 0 1 = cc in omega arith
+here_or_not p x e = cc
 
 pub taken_or_not : (x : Fault) → ◌≡◌ {A = Result Unit Fault} (Err x) (Ok tt) → ⊥
-taken_or_not x e = let z : ◌≡◌ {A = ℕ} 0 1 = cc in omega arith
+taken_or_not x e = cc
 
 module _ (m : Memory) (a n : ℕ) where
   pub inside_is : Inside m a n ↔ (a + n ≤ length (storage_of m))

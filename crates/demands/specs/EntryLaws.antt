@@ -242,10 +242,10 @@ unfolding refusal
 not_done n h given m e = h e
 
 pub out_of_range_not : OutOfRange ≡ Done → ⊥
-out_of_range_not e = let z : ◌≡◌ {A = ℕ} 0 1 = cc in omega arith
+out_of_range_not e = cc
 
 pub masked-not : Masked ≡ Done → ⊥
-masked-not e = let z : ◌≡◌ {A = ℕ} 0 1 = cc in omega arith
+masked-not e = cc
 
 pub record Open (s : Cpu) (l : Lent) (o : Outcome) (c : Outcome) : Type 0 where
   pub ready : Ready s l

@@ -78,7 +78,7 @@ perform-refused s x m = refl
 -- ---- a step that was done
 
 stopped_not : Stop ≡ Done → ⊥
-stopped_not e = let z : ◌≡◌ {A = ℕ} 0 1 = cc in omega arith
+stopped_not e = cc
 
 abbrev pub doing : Cpu → Memory → Change
 doing s m = execute s.r s.pc s.sr s.other s.emac m

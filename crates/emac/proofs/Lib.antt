@@ -1,4 +1,3 @@
 pub mod RaisedProduct
-pub mod PlainMode
 mod MoveLaws
 mod ReadLaws

@@ -1,5 +1,5 @@
 -- What each way of the moves to accumulators, extensions and MACSR is, in plain numbers. Assumes nothing.
-use Rattle.std.proofs.Common.{◌≡◌, ℕ, zero, suc, ◌+◌, ◌-◌, ◌*◌, ◌%◌, ◌^◌, ◌<◌, ◌≤◌, Bool, true, false, List, [], ◌∷◌, map, length, get_or, pos, neg_ℤ, refl, ap, arith}
+use Rattle.std.proofs.Common.{◌≡◌, ℕ, zero, suc, ◌+◌, ◌-◌, ◌*◌, ◌%◌, ◌^◌, ◌<◌, ◌≤◌, Bool, true, false, List, [], ◌∷◌, map, length, get_or, pos, neg_ℤ, refl, ap, sym, ◌∙◌, arith}
 use Rattle.manual.specs.declared.Mode.{Mode}
 use Rattle.manual.specs.declared.Emac.{Emac}
 use Rattle.manual.specs.Word.{mod_z}
@@ -46,18 +46,21 @@ with_ext-next fi i ext e = rw (acc-next e i, next-number i)
 no : (n : ℕ) → suc (suc (suc (suc (suc n)))) ≡ 4 → ⊥
 no n q = omega arith
 
-four : (f : ℕ → ℕ) (l : List ℕ) → length l ≡ 4 → map f l ≡ f (get_or l 0 0) ∷ f (get_or l 1 0) ∷ f (get_or l 2 0) ∷ f (get_or l 3 0) ∷ []
-four f [] e = absurd (let q : ◌≡◌ {A = ℕ} 0 4 = e in omega arith)
-four f (a ∷ []) e = absurd (let q : ◌≡◌ {A = ℕ} 1 4 = e in omega arith)
-four f (a ∷ b ∷ []) e = absurd (let q : ◌≡◌ {A = ℕ} 2 4 = e in omega arith)
-four f (a ∷ b ∷ c ∷ []) e = absurd (let q : ◌≡◌ {A = ℕ} 3 4 = e in omega arith)
-four f (a ∷ b ∷ c ∷ d ∷ []) e = refl
-four f (a ∷ b ∷ c ∷ d ∷ g ∷ l) e = absurd (no (length l) e)
+four : (l : List ℕ) → length l ≡ 4 → l ≡ get_or l 0 0 ∷ get_or l 1 0 ∷ get_or l 2 0 ∷ get_or l 3 0 ∷ []
+four [] e = absurd (let q : ◌≡◌ {A = ℕ} 0 4 = e in omega arith)
+four (a ∷ []) e = absurd (let q : ◌≡◌ {A = ℕ} 1 4 = e in omega arith)
+four (a ∷ b ∷ []) e = absurd (let q : ◌≡◌ {A = ℕ} 2 4 = e in omega arith)
+four (a ∷ b ∷ c ∷ []) e = absurd (let q : ◌≡◌ {A = ℕ} 3 4 = e in omega arith)
+four (a ∷ b ∷ c ∷ d ∷ []) e = refl
+four (a ∷ b ∷ c ∷ d ∷ g ∷ l) e = absurd (no (length l) e)
 
-pub set_macsr-is : (e : Emac) (v : ℕ) (o n : Bool) (a b c d : ℕ) → length e.acc ≡ 4 → o ≡ fractional e.macsr → n ≡ fractional (v % 0x1000)
-    → a ≡ reinterpreted o n (get_or e.acc 0 0) → b ≡ reinterpreted o n (get_or e.acc 1 0) → c ≡ reinterpreted o n (get_or e.acc 2 0) → d ≡ reinterpreted o n (get_or e.acc 3 0)
-    → record { macsr = v % 0x1000; mask = e.mask; acc = a ∷ b ∷ c ∷ d ∷ [] } ≡ set_macsr e v
+-- the new accumulators are those of the old ones, one by one
+pub set_macsr-is : (e : Emac) (v : ℕ) (o n : Bool) (l : List ℕ) → length e.acc ≡ 4 → length l ≡ 4 → o ≡ fractional e.macsr → n ≡ fractional (v % 0x1000)
+    → (a b c d : ℕ) → get_or e.acc 0 0 ≡ a → get_or e.acc 1 0 ≡ b → get_or e.acc 2 0 ≡ c → get_or e.acc 3 0 ≡ d
+    → (p q r s : ℕ) → get_or l 0 0 ≡ p → get_or l 1 0 ≡ q → get_or l 2 0 ≡ r → get_or l 3 0 ≡ s
+    → p ≡ reinterpreted o n a → q ≡ reinterpreted o n b → r ≡ reinterpreted o n c → s ≡ reinterpreted o n d
+    → record { macsr = v % 0x1000; mask = e.mask; acc = l } ≡ set_macsr e v
 unfolding set_macsr
-set_macsr-is e v o n a b c d l eo en ea eb ec ed =
-    ap (λ (l : List ℕ). record { macsr = v % 0x1000; mask = e.mask; acc = l })
-    (rw (← eo, ← en, four (reinterpreted o n) e.acc l, ea, eb, ec, ed))
+set_macsr-is e v o n l h k eo en a b c d ea eb ec ed p q r s ep eq er es fp fq fr fs =
+    ap (λ (t : List ℕ). record { macsr = v % 0x1000; mask = e.mask; acc = t })
+    (four l k ∙ rw (← eo, ← en, ep, eq, er, es, fp, fq, fr, fs, ← ea, ← eb, ← ec, ← ed) (ap (map (reinterpreted o n)) (sym (four e.acc h))))

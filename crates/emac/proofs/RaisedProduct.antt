@@ -60,17 +60,20 @@ down : (q : ℕ) → 2 ^ 62 - q ≤ 2 ^ 63
 down q = omega arith
 
 -- the sum that wraps
-wraps : (d m l r t : ℕ) → (l + d) % 2 ^ 64 ≡ m → r ≡ (l + 2 ^ 63) % 2 ^ 64 → t + d ≡ m + 2 ^ 63 → t ≤ 2 ^ 63 → l < 2 ^ 64 → r ≡ t
-wraps d m l r t p q e k f = omega arith
+wraps : (d m t : ℕ) → t + d ≡ m + 2 ^ 63 → t ≤ 2 ^ 63 → d < 2 ^ 64 → ((m + (2 ^ 64 - d)) % 2 ^ 64 + 2 ^ 63) % 2 ^ 64 ≡ t
+wraps d m t e k f = omega arith
 
-module _ (x y a b m l r : ℕ) (hx : x < 2 ^ 32) (hy : y < 2 ^ 32) (ea : a ≡ (x + 2 ^ 31) % 2 ^ 32) (eb : b ≡ (y + 2 ^ 31) % 2 ^ 32)
-    (em : m ≡ a * b) (el : (l + (a + b) * h) % 2 ^ 64 ≡ m) (er : r ≡ (l + 2 ^ 63) % 2 ^ 64) (hl : l < 2 ^ 64) where
+module _ (x y a b m : ℕ) (hx : x < 2 ^ 32) (hy : y < 2 ^ 32) (ea : a ≡ (x + 2 ^ 31) % 2 ^ 32) (eb : b ≡ (y + 2 ^ 31) % 2 ^ 32)
+    (em : m ≡ a * b) where
   abbrev Z : ℤ
   Z = signed Long x *ℤ signed Long y
 
+  abbrev r : ℕ
+  r = ((m + (2 ^ 64 - (a + b) * h)) % 2 ^ 64 + 2 ^ 63) % 2 ^ 64
+
   is : (t : ℕ) → t + (a + b) * h ≡ a * b + 2 ^ 63 → t ≤ 2 ^ 63 → Up (2 ^ 62) Z t → Up (2 ^ 62) Z r × (r ≤ 2 ^ 63)
   is t e k u =
-      let q : r ≡ t = wraps ((a + b) * h) m l r t el er (rw em e) k hl in
+      let q : r ≡ t = wraps ((a + b) * h) m t (rw em e) k (omega arith) in
       (rw q u, rw q k)
 
   pub raised-product : Up (2 ^ 62) Z r × (r ≤ 2 ^ 63)

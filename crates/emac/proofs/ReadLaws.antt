@@ -1,71 +1,59 @@
 -- What each way of `mac_read` and its parts is, in plain numbers. Assumes nothing.
-use Rattle.std.proofs.Common.{◌≡◌, ℕ, zero, suc, ◌+◌, ◌/◌, ◌%◌, ◌^◌, ◌<◌, Bool, true, false, cond, not, ◌&&◌, ◌||◌, ltb, leb, ℤ, pos, negsuc, sym, refl, ap, ◌∙◌, arith, lt-ltb}
+use Rattle.std.proofs.Common.{◌≡◌, ℕ, zero, suc, ◌+◌, ◌-◌, ◌*◌, ◌/◌, ◌%◌, ◌^◌, ◌<◌, ◌≤◌, Bool, true, false, cond, not, ◌&&◌, ◌||◌, ltb, leb, ℤ, pos, negsuc, sym, refl, ap, ◌∙◌, arith, lt-ltb, subst, div-add-mod', div-le_self, mod-eq_of_lt, mul_comm, mul_assoc, mul-div_cancel}
+use Rattle.word.specs.TestLaws.{by-lt}
 use mathlib.Core.Bool.{and-false}
 use lib.IntN.{suc_ℤ}
 use lib.Signed.{shr_z}
 use Rattle.manual.specs.declared.Mode.{Mode}
 use Rattle.manual.specs.Word.{mod_z, in_half, negative}
-use Rattle.manual.specs.Emac.{rounds_up, nearest, rounded, value_of, read_acc}
+use Rattle.manual.specs.Emac.{rounds_up, rounded, value_of, read_acc}
 use Rattle.word.specs.RaisedLaws.{Up, higher, up-negative, out-half}
 use Rattle.emac.specs.Parts.{clamped, IsRounded, IsClamped}
 use Rattle.emac.specs.BoolLaws.{by_bool}
-use Rattle.emac.specs.NumberLaws.{floor24, mod24, odd24, floor8, mod8, odd8, mod16, mod32}
-use Rattle.emac.specs.RoundLaws.{round_up, round_down}
+use Rattle.emac.specs.Products.{rounded_quotient}
+use Rattle.emac.specs.RoundLaws.{mod_is, rounds}
 
-module _ (r : ℕ) where
-  pub up24 : rounds_up (2 ^ 24) (r % 2 ^ 24) (r / 2 ^ 24 % 2) ≡ true → IsRounded true (2 ^ 24) r (r / 2 ^ 24 + 1 + 0xF_FFFF_F000_0000)
-  up24 t =
+-- ---- parts of 2^52
+
+module _ (n : ℕ) (e : 2 ^ 52 % n ≡ 0) where
+  part : 2 ^ 52 / n * n ≡ 2 ^ 52
+  part = omega (arith, div-add-mod' (2 ^ 52) n)
+
+  some : 0 < n
+  some = by-lt 0 n (λ h. h) (λ h. absurd (none (omega arith)))
+    where
+      none : n ≡ 0 → ⊥
+      none q = let f : 2 ^ 52 % 0 ≡ 0 = rw q at e in omega (arith, f)
+
+module _ (rt : Bool) (m r : ℕ) (e : 2 ^ 52 % (m * 2) ≡ 0) where
+  abbrev B : ℕ
+  B = 2 ^ 52 / (m * 2)
+
+  whole : B * 2 * m ≡ 2 ^ 52
+  whole = mul_assoc B 2 m ∙ ap (λ (t : ℕ). B * t) (mul_comm 2 m) ∙ part (m * 2) e
+
+  over : 2 ^ 52 / m ≡ B * 2
+  over = ap (λ (t : ℕ). t / m) (sym whole) ∙ mul-div_cancel (B * 2) (omega (arith, some (m * 2) e))
+
+  pub near : IsRounded rt m r (rounded_quotient rt m r + (0x10_0000_0000_0000 - 0x10_0000_0000_0000 / m))
+  near =
       record {
-        value = λ z u. higher (2 ^ 28) (2 ^ 52) (nearest z (2 ^ 24)) (r / 2 ^ 24 + 1) (omega arith)
-            (round_up true (2 ^ 24) (2 ^ 28) r z (floor24 z r u) (mod24 z r u) (odd24 z r u) t);
+        value = λ z u. rw over (higher (B * 2) (2 ^ 52) (rounded rt z m) (rounded_quotient rt m r) (omega (arith, over, div-le_self (2 ^ 52) m))
+            (rounds rt B m r z (omega (arith, some (m * 2) e)) (subst (λ (t : ℕ). Up t z r) (sym whole) u)));
       }
 
-  pub down24 : rounds_up (2 ^ 24) (r % 2 ^ 24) (r / 2 ^ 24 % 2) ≡ false → IsRounded true (2 ^ 24) r (r / 2 ^ 24 + 0xF_FFFF_F000_0000)
-  down24 t =
-      record {
-        value = λ z u. higher (2 ^ 28) (2 ^ 52) (nearest z (2 ^ 24)) (r / 2 ^ 24) (omega arith)
-            (round_down true (2 ^ 24) (2 ^ 28) r z (floor24 z r u) (mod24 z r u) (odd24 z r u) t);
-      }
+module _ (omc below : Bool) (H q : ℕ) (e : 2 ^ 52 % (H * 2) ≡ 0) (h : H ≤ 2 ^ 31) where
+  abbrev pub out : Bool
+  out = ltb q (2 ^ 52 - H) || leb (2 ^ 52 + H) q
 
-  module _ (rt : Bool) where
-    pub up8 : (rt && rounds_up (2 ^ 8) (r % 2 ^ 8) (r / 2 ^ 8 % 2)) ≡ true → IsRounded rt (2 ^ 8) r (r / 2 ^ 8 + 1 + 0xF_F000_0000_0000)
-    up8 t =
-        record {
-          value = λ z u. higher (2 ^ 44) (2 ^ 52) (rounded rt z (2 ^ 8)) (r / 2 ^ 8 + 1) (omega arith)
-              (round_up rt (2 ^ 8) (2 ^ 44) r z (floor8 z r u) (mod8 z r u) (odd8 z r u) t);
-        }
+  twice : H + H ≡ H * 2
+  twice = omega arith
 
-    pub down8 : (rt && rounds_up (2 ^ 8) (r % 2 ^ 8) (r / 2 ^ 8 % 2)) ≡ false → IsRounded rt (2 ^ 8) r (r / 2 ^ 8 + 0xF_F000_0000_0000)
-    down8 t =
-        record {
-          value = λ z u. higher (2 ^ 44) (2 ^ 52) (rounded rt z (2 ^ 8)) (r / 2 ^ 8) (omega arith)
-              (round_down rt (2 ^ 8) (2 ^ 44) r z (floor8 z r u) (mod8 z r u) (odd8 z r u) t);
-        }
+  least : (H - 1) % (H + H) ≡ H - 1
+  least = mod-eq_of_lt (omega (arith, some (H * 2) e))
 
-module _ (omc below : Bool) (q : ℕ) where
-  abbrev pub out15 : Bool
-  out15 = ltb q 0xF_FFFF_FFFF_8000 || leb 0x10_0000_0000_8000 q
-
-  pub clamp15_neg : (omc && out15) ≡ true → below ≡ true → IsClamped omc below (2 ^ 15) q 0x8000
-  clamp15_neg e n = record { value = λ z u. rw (out-half (2 ^ 52) (2 ^ 15) z q (omega arith) u, e, n) }
-
-  pub clamp15_pos : (omc && out15) ≡ true → below ≡ false → IsClamped omc below (2 ^ 15) q 0x7FFF
-  clamp15_pos e n = record { value = λ z u. rw (out-half (2 ^ 52) (2 ^ 15) z q (omega arith) u, e, n) }
-
-  pub clamp15_in : (omc && out15) ≡ false → IsClamped omc below (2 ^ 15) q (q % 0x1_0000)
-  clamp15_in e = record { value = λ z u. rw (out-half (2 ^ 52) (2 ^ 15) z q (omega arith) u, e, mod16 z q u) }
-
-  abbrev pub out31 : Bool
-  out31 = ltb q 0xF_FFFF_8000_0000 || leb 0x10_0000_8000_0000 q
-
-  pub clamp31_neg : (omc && out31) ≡ true → below ≡ true → IsClamped omc below (2 ^ 31) q 0x8000_0000
-  clamp31_neg e n = record { value = λ z u. rw (out-half (2 ^ 52) (2 ^ 31) z q (omega arith) u, e, n) }
-
-  pub clamp31_pos : (omc && out31) ≡ true → below ≡ false → IsClamped omc below (2 ^ 31) q 0x7FFF_FFFF
-  clamp31_pos e n = record { value = λ z u. rw (out-half (2 ^ 52) (2 ^ 31) z q (omega arith) u, e, n) }
-
-  pub clamp31_in : (omc && out31) ≡ false → IsClamped omc below (2 ^ 31) q (q % 0x1_0000_0000)
-  clamp31_in e = record { value = λ z u. rw (out-half (2 ^ 52) (2 ^ 31) z q (omega arith) u, e, mod32 z q u) }
+  pub clamped_in : (omc && out) ≡ false → IsClamped omc below H q (q % (H * 2))
+  clamped_in o = record { value = λ z u. rw (out-half (2 ^ 52) H z q (omega arith) u, o, twice) (sym (mod_is (2 ^ 52 / (H * 2)) (H * 2) (some (H * 2) e) z q (subst (λ (t : ℕ). Up t z q) (sym (part (H * 2) e)) u))) }
 
 -- ---- a rounded number that is out of range has the sign of what was rounded
 
@@ -120,11 +108,7 @@ module _ (k : Mode) (a r v : ℕ) (u : Up (2 ^ 52) (value_of k a) r) where
   unfolding read_acc
   integer f s hv = rw (f, s) (rw (← up-negative (2 ^ 52) z r u, f, s) at (hv.value z u))
 
-module _ (k : Mode) (a : ℕ) (f : k.fi ≡ false) (s : k.su ≡ true) where
-  pub too_large : (k.omc && not (ltb (a % 2 ^ 48) 0x1_0000_0000)) ≡ true → 0xFFFF_FFFF ≡ read_acc k a
-  unfolding read_acc
-  too_large e = rw (f, s, e)
-
-  pub as_it_is : (k.omc && not (ltb (a % 2 ^ 48) 0x1_0000_0000)) ≡ false → a % 2 ^ 48 % 0x1_0000_0000 ≡ read_acc k a
-  unfolding read_acc
-  as_it_is e = rw (f, s, e)
+pub whole_long : (k : Mode) (a : ℕ) → k.fi ≡ false → k.su ≡ true
+    → cond (k.omc && not (ltb (a % 2 ^ 48) (2 ^ 32))) (2 ^ 32 - 1) (a % 2 ^ 48 % 2 ^ 32) ≡ read_acc k a
+unfolding read_acc
+whole_long k a f s = by_bool (k.omc && not (ltb (a % 2 ^ 48) (2 ^ 32))) (λ e. rw (f, s, e)) (λ e. rw (f, s, e))

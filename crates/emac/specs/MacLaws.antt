@@ -1,11 +1,11 @@
 -- An accumulator's number, a sum, and what is stored of it: what each way of the code is, in plain numbers. Assumes nothing.
-use Rattle.std.specs.Prelude.{◌≡◌, ℕ, zero, suc, ◌+◌, ◌-◌, ◌%◌, ◌^◌, ◌<◌, ◌≤◌, Bool, true, false, ◌&&◌, ◌||◌, List, [], ◌∷◌, ℤ, pos, negsuc, nat_le, nat_lt, slice_index, slice_set, refl}
+use Rattle.std.specs.Prelude.{◌≡◌, ℕ, zero, suc, ◌+◌, ◌-◌, ◌%◌, ◌^◌, ◌<◌, ◌≤◌, Bool, true, false, not, ◌&&◌, ◌||◌, List, [], ◌∷◌, ℤ, pos, negsuc, nat_le, nat_lt, slice_index, slice_set, refl}
 use Rattle.std.proofs.Common.{sym, ◌∙◌, arith}
 use Rattle.std.proofs.Math.Path.{ap}
 use Rattle.manual.specs.declared.Mode.{Mode}
 use Rattle.manual.specs.declared.Emac.{Emac}
 use Rattle.manual.specs.Word.{mod_z, negative}
-use Rattle.manual.specs.Emac.{mode_of, pav, scaled, scale_of, value_of, unsigned, limit, acc_of, with_acc, with_flags, with_sum, accumulate}
+use Rattle.manual.specs.Emac.{mode_of, pav, scaled, scale_of, value_of, unsigned, in_range, limit, acc_of, with_acc, with_flags, with_sum, accumulate}
 use Rattle.word.specs.RaisedLaws.{Up, plus, minus, up-negative, out-half, out-whole, signed_up}
 use Rattle.emac.specs.Sums.{IsValue, IsSum, IsOutside, IsStored, IsWithSum, IsSummed}
 use Rattle.emac.specs.declared.product.Raised.{Raised}
@@ -76,6 +76,13 @@ pub with_sum-is : (k : Mode) (m i s : ℕ) (over o : Bool) (a : ℕ) (p : Bool) 
     → IsWithSum k m i over s (record { macsr = f; acc = a })
 unfolding with_sum
 with_sum-is k m i s over o a p f ho ha ep ef = record { value = λ z u e em. rw (em, ef, ep, ha.value z u, ho.value z u) }
+
+-- the same, where one test finds both overflows
+pub with_sum-by : (k : Mode) (m i s : ℕ) (over out : Bool) (a f : ℕ)
+    → ((z : ℤ) → Up (2 ^ 52) z s → out ≡ (over || not (in_range k z))) → IsStored k out s a → f ≡ with_flags k m i (out || pav m i) a
+    → IsWithSum k m i over s (record { macsr = f; acc = a })
+unfolding with_sum
+with_sum-by k m i s over out a f ho ha ef = record { value = λ z u e em. rw (em, ef, ha.value z u, ho z u) }
 
 set_same : (l : List ℕ) (n : ℕ) → slice_set l n (slice_index l n) ≡ l
 set_same [] n = refl

@@ -1,8 +1,8 @@
 -- What the parts of a product ensure, where whole numbers are raised: by 2^52, or as said. Assumes nothing.
-use Rattle.std.specs.Prelude.{◌≡◌, ℕ, suc, ◌+◌, ◌-◌, ◌%◌, ◌^◌, ◌≤◌, Bool, false, cond, not, ◌&&◌, ℤ, pos, negsuc, ◌+ℤ◌, ◌-ℤ◌, nat_lt}
+use Rattle.std.specs.Prelude.{◌≡◌, ℕ, suc, ◌+◌, ◌-◌, ◌/◌, ◌%◌, ◌^◌, ◌≤◌, Bool, false, cond, not, ◌&&◌, ℤ, pos, negsuc, ◌+ℤ◌, ◌-ℤ◌, nat_lt}
 use Rattle.manual.specs.declared.Mode.{Mode}
 use Rattle.manual.specs.Word.{signed_at, mod_z, in_half, negative}
-use Rattle.manual.specs.Emac.{rounded, scaled, scale_of, full_product, product_of, product_over, value_of}
+use Rattle.manual.specs.Emac.{rounds_up, rounded, scaled, scale_of, full_product, product_of, product_over, value_of}
 use Rattle.word.specs.RaisedLaws.{Up}
 use Rattle.emac.specs.declared.product.Raised.{Raised}
 
@@ -45,6 +45,10 @@ raised_product k s x y = record { value = raised (2 ^ 52) (scaled (scale_of k s)
 pub record IsFraction (rt : Bool) (p r : ℕ) : Type 0 where
   pub value : (z : ℤ) → Up (2 ^ 62) z p → Up (2 ^ 39) (fraction rt z) r
   pub high : r ≤ 2 ^ 40 + 1
+
+-- r over m, to the nearest where rt: `RoundLaws` has that it is so of raised numbers
+abbrev pub rounded_quotient : Bool → ℕ → ℕ → ℕ
+rounded_quotient rt m r = cond (rt && rounds_up m (r % m) (r / m % 2)) (r / m + 1) (r / m)
 
 -- a product z, with its overflow
 pub record IsNumber (z : ℤ) (out : Bool) (r : Raised) : Type 0 where

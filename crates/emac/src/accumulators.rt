@@ -7,21 +7,20 @@ use super::flags::{fractional, mode_of, pav, with_flags, with_pav};
 use manual::{Emac, Mode};
 
 // Accumulator i's pattern, i modulo 4.
+#[tactic(auto, unfolding(manual::specs::Emac::acc_of))]
 pub fn acc_of(e: Emac, i: u32) -> u64
     ensures { result ≡ acc_of e i }
 {
-    let j = (i % 4) as usize;
-    e.acc[j]
+    e.acc[(i % 4) as usize]
 }
 
 // The unit with accumulator i and MACSR replaced.
+#[tactic(auto, unfolding(manual::specs::Emac::with_acc))]
 pub fn with_acc(e: Emac, i: u32, macsr: u32, a: u64) -> Emac
     ensures { result ≡ with_acc i macsr a e }
 {
-    let j = (i % 4) as usize;
-    let mut next = e;
-    next.macsr = macsr;
-    next.acc[j] = a;
+    let mut next = Emac { macsr, ..e };
+    next.acc[(i % 4) as usize] = a;
     next
 }
 
@@ -73,18 +72,8 @@ pub fn set_macsr(e: Emac, v: u32) -> Emac
     let n = v % 0x1000;
     let old = fractional(e.macsr);
     let new = fractional(n);
-    let a = e.acc;
-    let b = [
-        reinterpreted(old, new, a[0]),
-        reinterpreted(old, new, a[1]),
-        reinterpreted(old, new, a[2]),
-        reinterpreted(old, new, a[3]),
-    ];
-    Emac {
-        macsr: n,
-        mask: e.mask,
-        acc: b,
-    }
+    let acc = e.acc.map(move |a| reinterpreted(old, new, a));
+    Emac { macsr: n, acc, ..e }
 }
 
 // The pattern of a long, as the mode reads it.
@@ -93,21 +82,20 @@ fn loaded(k: Mode, v: u32) -> u64
 {
     let w = v as u64;
     if k.fi {
-        if w < 0x8000_0000 {
-            return w * 0x100;
+        if v < 0x8000_0000 {
+            w * 0x100
+        } else {
+            w * 0x100 + 0xFF00_0000_0000
         }
-        return w * 0x100 + 0xFF00_0000_0000;
+    } else if k.su || v < 0x8000_0000 {
+        w
+    } else {
+        w + 0xFFFF_0000_0000
     }
-    if k.su {
-        return w;
-    }
-    if w < 0x8000_0000 {
-        return w;
-    }
-    w + 0xFFFF_0000_0000
 }
 
 // The unit with a long moved to accumulator i.
+#[tactic(auto, unfolding(manual::specs::Emac::set_acc))]
 pub fn set_acc(e: Emac, i: u32, v: u32) -> Emac
     ensures { result ≡ set_acc e i v }
 {
@@ -118,6 +106,7 @@ pub fn set_acc(e: Emac, i: u32, v: u32) -> Emac
 }
 
 // The unit with an accumulator copied to another, its PAV too.
+#[tactic(auto, unfolding(manual::specs::Emac::copy_acc))]
 pub fn copy_acc(e: Emac, from: u32, to: u32) -> Emac
     ensures { result ≡ copy_acc e from to }
 {
@@ -128,6 +117,7 @@ pub fn copy_acc(e: Emac, from: u32, to: u32) -> Emac
 }
 
 // The unit with accumulator i and its PAV cleared.
+#[tactic(auto, unfolding(manual::specs::Emac::clear_acc))]
 pub fn clear_acc(e: Emac, i: u32) -> Emac
     ensures { result ≡ clear_acc e i }
 {
@@ -144,6 +134,7 @@ pub fn read_ext(fi: bool, e: Emac, i: u32) -> u32
     ((high as u64) * 0x1_0000 + low as u64) as u32
 }
 
+#[tactic(auto, unfolding(manual::specs::Emac::with_ext))]
 fn with_ext(fi: bool, e: Emac, i: u32, ext: u32) -> Emac
     ensures { result ≡ with_ext fi i ext e }
 {
@@ -162,10 +153,12 @@ pub fn set_ext(e: Emac, i: u32, v: u32) -> Emac
 }
 
 // The unit with MASK written, its upper half ones.
+#[tactic(auto, unfolding(manual::specs::Emac::set_mask))]
 pub fn set_mask(e: Emac, v: u32) -> Emac
     ensures { result ≡ set_mask e v }
 {
-    let mut next = e;
-    next.mask = 0xFFFF_0000 + v % 0x1_0000;
-    next
+    Emac {
+        mask: 0xFFFF_0000 + v % 0x1_0000,
+        ..e
+    }
 }

@@ -16,15 +16,16 @@ fn half_of(upper: bool, v: u32) -> u32
 }
 
 // The upper or the lower half of a register's v, placed or extended by the mode.
+#[tactic(auto, unfolding(manual::specs::Emac::word_operand))]
 pub fn mac_word(k: Mode, upper: bool, v: u32) -> u32
     ensures { result ≡ word_operand k upper v }
 {
     let h = half_of(upper, v);
     if k.fi {
-        return h * 0x1_0000;
+        h * 0x1_0000
+    } else if k.su {
+        h
+    } else {
+        sign_extended(Size::Word, h)
     }
-    if k.su {
-        return h;
-    }
-    sign_extended(Size::Word, h)
 }

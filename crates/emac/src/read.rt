@@ -1,56 +1,44 @@
 // MOVE.L ACCy,Rx. Numbers are raised by 2^52.
-ghost use Rattle.std.specs.Prelude.{◌≡◌, ◌^◌, ◌<◌, true};
+ghost use Rattle.std.specs.Prelude.{◌≡◌, ◌-◌, ◌*◌, ◌/◌, ◌%◌, ◌^◌, ◌<◌, ◌≤◌, ◌&&◌, cond, not};
+ghost use lib.Dec.{ltb};
 ghost use Rattle.manual.specs.Emac.{read_acc};
 ghost use Rattle.emac.specs.Parts.{IsRounded, IsClamped};
 
-use super::product::rounds_up;
+use super::product::quotient;
 use super::sum::value_of;
 use manual::Mode;
 
-// A number over 2^24, to the nearest.
-fn near24(r: u64) -> u64
-    requires { r < 2 ^ 53 }
-    ensures { IsRounded true (2 ^ 24) r result }
+// A number over M, to the nearest where `rt`: it is raised by 2^52 again.
+fn rounded<const M: u64>(rt: bool, r: u64) -> u64
+    requires { (2 ^ 52 % (M * 2) ≡ 0) × (M / 2 * 2 ≡ M) × (r < 2 ^ 53) }
+    ensures { IsRounded rt M r result }
 {
-    let q = r / 0x100_0000;
-    if rounds_up(0x80_0000, r % 0x100_0000, q) {
-        return q + 1 + 0xF_FFFF_F000_0000;
-    }
-    q + 0xF_FFFF_F000_0000
+    quotient::<M>(rt, r) + (0x10_0000_0000_0000 - 0x10_0000_0000_0000 / M)
 }
 
-// A number over 2^8, to the nearest where RT says so.
-fn near8(rt: bool, r: u64) -> u64
-    requires { r < 2 ^ 53 }
-    ensures { IsRounded rt (2 ^ 8) r result }
+// A number as a width that has H numbers below 0, with OMC the nearest of them.
+fn clamped<const H: u64>(omc: bool, below: bool, q: u64) -> u32
+    requires { (2 ^ 52 % (H * 2) ≡ 0) × (H ≤ 2 ^ 31) }
+    ensures { IsClamped omc below H q result }
 {
-    let q = r / 0x100;
-    let up = rounds_up(0x80, r % 0x100, q);
-    if rt & up {
-        return q + 1 + 0xF_F000_0000_0000;
-    }
-    q + 0xF_F000_0000_0000
-}
-
-fn clamp15(omc: bool, below: bool, q: u64) -> u32
-    ensures { IsClamped omc below (2 ^ 15) q result }
-{
-    let out = (q < 0xF_FFFF_FFFF_8000) | (q >= 0x10_0000_0000_8000);
-    if omc & out {
-        if below { 0x8000 } else { 0x7FFF }
+    let out = q < 0x10_0000_0000_0000 - H || q >= 0x10_0000_0000_0000 + H;
+    if !(omc && out) {
+        (q % (H * 2)) as u32
+    } else if below {
+        H as u32
     } else {
-        (q % 0x1_0000) as u32
+        (H - 1) as u32
     }
 }
 
-fn clamp31(omc: bool, below: bool, q: u64) -> u32
-    ensures { IsClamped omc below (2 ^ 31) q result }
+// The number of an unsigned integer's pattern, with OMC the nearest of a long.
+fn unsigned_read(omc: bool, p: u64) -> u32
+    ensures { result ≡ cond (omc && not (ltb p (2 ^ 32))) (2 ^ 32 - 1) (p % 2 ^ 32) }
 {
-    let out = (q < 0xF_FFFF_8000_0000) | (q >= 0x10_0000_8000_0000);
-    if omc & out {
-        if below { 0x8000_0000 } else { 0x7FFF_FFFF }
+    if omc && p >= 0x1_0000_0000 {
+        0xFFFF_FFFF
     } else {
-        (q % 0x1_0000_0000) as u32
+        (p % 0x1_0000_0000) as u32
     }
 }
 
@@ -60,18 +48,10 @@ pub fn mac_read(mode: Mode, a: u64) -> u32
 {
     let r = value_of(mode, a);
     let below = r < 0x10_0000_0000_0000;
-    if mode.fi {
-        if mode.su {
-            return clamp15(mode.omc, below, near24(r));
-        }
-        return clamp31(mode.omc, below, near8(mode.rt, r));
+    match (mode.fi, mode.su) {
+        (true, true) => clamped::<0x8000>(mode.omc, below, rounded::<0x100_0000>(true, r)),
+        (true, false) => clamped::<0x8000_0000>(mode.omc, below, rounded::<0x100>(mode.rt, r)),
+        (false, true) => unsigned_read(mode.omc, a % 0x1_0000_0000_0000),
+        (false, false) => clamped::<0x8000_0000>(mode.omc, below, r),
     }
-    if mode.su {
-        let p = a % 0x1_0000_0000_0000;
-        if mode.omc & !(p < 0x1_0000_0000) {
-            return 0xFFFF_FFFF;
-        }
-        return (p % 0x1_0000_0000) as u32;
-    }
-    clamp31(mode.omc, below, r)
 }

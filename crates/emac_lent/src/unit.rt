@@ -1,6 +1,6 @@
 // The calls on a unit by value, refusals first.
 ghost use Rattle.std.specs.Prelude.{◌≡◌};
-ghost use Rattle.manual.specs.UnitCalls.{answer, accumulate_call, set_macsr_call, set_acc_call, clear_acc_call};
+ghost use Rattle.manual.specs.UnitCalls.{changed as changed_of, acc_changed as acc_changed_of, accumulate_call, set_macsr_call, set_acc_call, clear_acc_call};
 
 use emac::{accumulators, sum};
 use manual::{Emac, EmacAnswer, Reply};
@@ -8,77 +8,63 @@ use state::status::emac_admitted;
 
 const ACCUMULATORS: u32 = 4;
 
-// The unit as it was.
-fn refused(e: Emac, reply: Reply) -> EmacAnswer
-    ensures { result ≡ answer reply e }
+// The unit after a change, or as it was.
+fn changed(e: Emac, next: Emac) -> EmacAnswer
+    ensures { result ≡ changed_of e next }
 {
-    EmacAnswer {
-        reply: reply,
-        emac: e,
+    if !emac_admitted(e) {
+        return EmacAnswer {
+            reply: Reply::NotAdmitted,
+            emac: e,
+        };
     }
+    EmacAnswer {
+        reply: Reply::Done,
+        emac: next,
+    }
+}
+
+// The same after a change of accumulator i.
+fn acc_changed(e: Emac, i: u32, next: Emac) -> EmacAnswer
+    ensures { result ≡ acc_changed_of e i next }
+{
+    if emac_admitted(e) && ACCUMULATORS <= i {
+        return EmacAnswer {
+            reply: Reply::OutOfRange,
+            emac: e,
+        };
+    }
+    changed(e, next)
 }
 
 // MAC, and MSAC where `sub`.
+#[tactic(auto, unfolding(manual::specs::UnitCalls::accumulate_call))]
 pub fn accumulate(e: Emac, i: u32, scale: u32, sub: bool, x: u32, y: u32) -> EmacAnswer
     ensures { result ≡ accumulate_call e i scale sub x y }
 {
-    if !emac_admitted(e) {
-        return refused(e, Reply::NotAdmitted);
-    }
-    if ACCUMULATORS <= i {
-        return refused(e, Reply::OutOfRange);
-    }
-    let sum = sum::accumulate(e, i, scale, sub, x, y);
-    EmacAnswer {
-        reply: Reply::Done,
-        emac: sum,
-    }
+    acc_changed(e, i, sum::accumulate(e, i, scale, sub, x, y))
 }
 
 // The unit with MACSR written; refused with 2.
+#[tactic(auto, unfolding(manual::specs::UnitCalls::set_macsr_call))]
 pub fn set_macsr(e: Emac, v: u32) -> EmacAnswer
     ensures { result ≡ set_macsr_call e v }
 {
-    if !emac_admitted(e) {
-        return refused(e, Reply::NotAdmitted);
-    }
-    let written = accumulators::set_macsr(e, v);
-    EmacAnswer {
-        reply: Reply::Done,
-        emac: written,
-    }
+    changed(e, accumulators::set_macsr(e, v))
 }
 
 // MOVE.L to an accumulator.
+#[tactic(auto, unfolding(manual::specs::UnitCalls::set_acc_call))]
 pub fn set_acc(e: Emac, i: u32, v: u32) -> EmacAnswer
     ensures { result ≡ set_acc_call e i v }
 {
-    if !emac_admitted(e) {
-        return refused(e, Reply::NotAdmitted);
-    }
-    if ACCUMULATORS <= i {
-        return refused(e, Reply::OutOfRange);
-    }
-    let moved = accumulators::set_acc(e, i, v);
-    EmacAnswer {
-        reply: Reply::Done,
-        emac: moved,
-    }
+    acc_changed(e, i, accumulators::set_acc(e, i, v))
 }
 
 // The unit with an accumulator cleared; refused with 2, or 6 above number 3.
+#[tactic(auto, unfolding(manual::specs::UnitCalls::clear_acc_call))]
 pub fn clear_acc(e: Emac, i: u32) -> EmacAnswer
     ensures { result ≡ clear_acc_call e i }
 {
-    if !emac_admitted(e) {
-        return refused(e, Reply::NotAdmitted);
-    }
-    if ACCUMULATORS <= i {
-        return refused(e, Reply::OutOfRange);
-    }
-    let cleared = accumulators::clear_acc(e, i);
-    EmacAnswer {
-        reply: Reply::Done,
-        emac: cleared,
-    }
+    acc_changed(e, i, accumulators::clear_acc(e, i))
 }

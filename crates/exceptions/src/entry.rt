@@ -1,5 +1,6 @@
 // Entry of an exception, and return from it.
 #![tactic(auto, unfolding(manual::specs::Exceptions::entered, manual::specs::Exceptions::frame_long, manual::specs::Exceptions::handler_state, manual::specs::Exceptions::return_state, manual::specs::Exceptions::returned, manual::specs::Reply::refusal))]
+
 ghost use Rattle.std.specs.Prelude.{◌≡◌, ◌+◌, ◌*◌, ◌/◌, ◌%◌, ◌^◌};
 ghost use Rattle.manual.specs.Memory.{mapped};
 ghost use Rattle.manual.specs.Reply.{outcome, refusal as refusal_of, fault_reply};
@@ -51,7 +52,14 @@ fn handler_state(cpu: Cpu, frame: u32, handler: u32) -> Cpu
 }
 
 // Entry to an exception, or its refusal. The vector is read after the frame is stored.
-pub fn entered(given: Cpu, cpu: Cpu, level: Option<u8>, vector: u8, pc: u32, mem: &mut [u8]) -> Stepped
+pub fn entered(
+    given: Cpu,
+    cpu: Cpu,
+    level: Option<u8>,
+    vector: u8,
+    pc: u32,
+    mem: &mut [u8],
+) -> Stepped
     ensures { outcome result mem.new ≡ entered_of given cpu level vector pc (mapped mem.old) }
 {
     let then = with_status(cpu, handler_sr(level, cpu.sr) as u32);

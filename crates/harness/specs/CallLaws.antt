@@ -21,7 +21,7 @@ still_refused : (r n : Reply) (b : Bool) → is_done r ≡ b → is_done n ≡ f
 still_refused r n true e h = h
 still_refused r n false e h = e
 
-done-kept : (n : Reply) (l : Lent) → is_done (block_reply n l) ≡ is_done n
+pub done-kept : (n : Reply) (l : Lent) → is_done (block_reply n l) ≡ is_done n
 unfolding block_reply
 done-kept n l = by (eqb (number_of n) 2) refl
   where

@@ -1,11 +1,9 @@
 // The calls on a state block and a memory that do no step, and what every call on a block begins and ends with.
-ghost use Rattle.std.specs.Prelude.{◌≡◌, cond};
-ghost use Rattle.manual.specs.declared.Level.TheVariants.{Kept, To};
-ghost use Rattle.manual.specs.Reply.{outcome};
+ghost use Rattle.std.specs.Prelude.{◌≡◌, ◌≤◌, cond, None, Some};
 ghost use Rattle.manual.specs.Lent.{lent};
 ghost use Rattle.manual.specs.Block.{read_block, store_block};
-ghost use Rattle.instructions.specs.HostCalls.{called, block_reply, opened as opened_of, on_block, exception_on, interrupt_on, rte_on};
-ghost use Rattle.harness.specs.Made.{made as made_of};
+ghost use Rattle.harness.specs.OnBlock.{IsOnBlock};
+ghost use Rattle.instructions.specs.HostCalls.{called, block_reply, opened as opened_of, exception_on, interrupt_on, rte_on};
 
 use block::read::read_block;
 use block::store::store_block;
@@ -17,10 +15,11 @@ use state::replies::{is_done, number_of};
 use state::status::lent_refusal;
 
 // A block that says no admitted state is refused after what is lent.
+#[tactic(auto, unfolding(instructions::specs::HostCalls::block_reply))]
 fn block_reply(reply: Reply, mem: &[u8]) -> Reply
     ensures { result ≡ block_reply reply (lent mem.now) }
 {
-    if number_of(reply) != 2 {
+    if !matches!(reply, Reply::NotAdmitted) {
         return reply;
     }
     let unusable = lent_refusal(mem);
@@ -32,12 +31,9 @@ pub fn opened(block: &[u8], mem: &[u8]) -> Answer
     ensures { result ≡ opened_of block.now (lent mem.now) }
 {
     let read = read_block(block);
-    let told = read.reply;
-    let given = read.cpu;
-    let reply = block_reply(told, mem);
     Answer {
-        reply: reply,
-        cpu: given,
+        reply: block_reply(read.reply, mem),
+        ..read
     }
 }
 
@@ -50,64 +46,56 @@ pub fn store_after(done: bool, cpu: Cpu, block: &mut [u8])
     }
 }
 
-// The calls that do no step.
-#[derive(Clone, Copy)]
-enum Call {
-    Rte,
-    Exception(u8, u32, Option<u8>),
-    Interrupt(u8, u8),
-}
-
-fn made(call: Call, cpu: Cpu, mem: &mut [u8]) -> Stepped
-    ensures { outcome result mem.new ≡ made_of call cpu (lent mem.old) }
+// A call on the state that a block holds: the number of the reply, and `weight` times the vector that was entered.
+pub(crate) fn on_block<F: FnOnce(Cpu, &mut [u8]) -> Stepped>(
+    weight: u32,
+    block: &mut [u8],
+    mem: &mut [u8],
+    call: F,
+) -> u32
+    requires callable { F.IsAlwaysCallable call }
+    requires small { weight ≤ 256 }
+    ensures { IsOnBlock (F.post call) weight block.old mem.old result block.new mem.new }
 {
-    match call {
-        Call::Rte => rte_call(cpu, &*mem),
-        Call::Exception(vector, pc, level) => exception_call(cpu, mem, vector, pc, level),
-        Call::Interrupt(vector, level) => interrupt_call(cpu, mem, vector, level),
+    let Answer { reply, cpu: given } = opened(&*block, &*mem);
+    if !is_done(reply) {
+        return number_of(reply);
     }
-}
-
-fn on_block(block: &mut [u8], mem: &mut [u8], call: Call) -> u32
-    ensures { called result block.new mem.new ≡ on_block 0 (read_block block.old) (made_of call (read_block block.old).cpu (lent mem.old)) block.old (lent mem.old) }
-{
-    let read = opened(&*block, &*mem);
-    let given = read.cpu;
-    let refused = read.reply;
-    if !is_done(refused) {
-        return number_of(refused);
-    }
-    let stepped = made(call, given, mem);
-    let reply = stepped.reply;
-    let last = stepped.cpu;
-    store_after(is_done(reply), last, block);
-    number_of(reply)
+    let Stepped { reply, vector, cpu } = call(given, mem);
+    store_after(is_done(reply), cpu, block);
+    number_of(reply) + weight * vector as u32
 }
 
 // Returns from an exception: the number of the reply.
 pub fn rte(block: &mut [u8], mem: &mut [u8]) -> u32
     ensures { called result block.new mem.new ≡ rte_on block.old (lent mem.old) }
 {
-    on_block(block, mem, Call::Rte)
+    on_block(0, block, mem, |cpu, mem| rte_call(cpu, &*mem))
 }
 
 // Enters an exception, keeping the mask: the number of the reply.
 pub fn exception(block: &mut [u8], mem: &mut [u8], vector: u8, pc: u32) -> u32
-    ensures { called result block.new mem.new ≡ exception_on block.old (lent mem.old) vector pc Kept }
+    ensures { called result block.new mem.new ≡ exception_on block.old (lent mem.old) vector pc None }
 {
-    on_block(block, mem, Call::Exception(vector, pc, None))
+    on_block(0, block, mem, |cpu, mem| {
+        exception_call(cpu, mem, vector, pc, None)
+    })
 }
 
 // Enters an exception at a level: the number of the reply.
 pub fn exception_at(block: &mut [u8], mem: &mut [u8], vector: u8, pc: u32, level: u8) -> u32
-    ensures { called result block.new mem.new ≡ exception_on block.old (lent mem.old) vector pc (To level) }
+    ensures { called result block.new mem.new ≡ exception_on block.old (lent mem.old) vector pc (Some level) }
 {
-    on_block(block, mem, Call::Exception(vector, pc, Some(level)))
+    on_block(0, block, mem, |cpu, mem| {
+        exception_call(cpu, mem, vector, pc, Some(level))
+    })
 }
 
 // Enters an interrupt: the number of the reply.
 pub fn interrupt(block: &mut [u8], mem: &mut [u8], vector: u8, level: u8) -> u32
     ensures { called result block.new mem.new ≡ interrupt_on block.old (lent mem.old) vector level }
 {
-    on_block(block, mem, Call::Interrupt(vector, level))
+    on_block(0, block, mem, |cpu, mem| {
+        interrupt_call(cpu, mem, vector, level)
+    })
 }

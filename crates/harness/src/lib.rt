@@ -3,17 +3,17 @@
 
 pub mod calls;
 
-ghost use Rattle.std.specs.Prelude.{◌≡◌};
-ghost use Rattle.manual.specs.declared.Level.TheVariants.{Kept, To};
+ghost use Rattle.std.specs.Prelude.{◌≡◌, None, Some};
 ghost use Rattle.manual.specs.Lent.{lent};
 ghost use Rattle.instructions.specs.HostCalls.{called, exception_on, interrupt_on, rte_on, step_on, run_on};
 ghost use Rattle.srecord.specs.TextCalls.{text_called, read_call, write_call};
 
 use calls::{
     exception as exception_call, exception_at as exception_at_call, interrupt as interrupt_call,
-    opened, rte as rte_call, store_after,
+    on_block, opened, rte as rte_call, store_after,
 };
 use machine::run::{run as run_call, step as step_call};
+use manual::{Answer, Ran};
 use srecord_read::read::read_call;
 use srecord_write::write::write_call;
 use state::replies::{is_done, number_of};
@@ -22,34 +22,20 @@ use state::replies::{is_done, number_of};
 pub fn step(block: &mut [u8], mem: &mut [u8]) -> u32
     ensures { called result block.new mem.new ≡ step_on block.old (lent mem.old) }
 {
-    let read = opened(&*block, &*mem);
-    let given = read.cpu;
-    let refused = read.reply;
-    if !is_done(refused) {
-        return number_of(refused);
-    }
-    let stepped = step_call(given, mem);
-    let reply = stepped.reply;
-    let last = stepped.cpu;
-    store_after(is_done(reply), last, block);
-    number_of(reply) + 256 * stepped.vector as u32
+    on_block(256, block, mem, step_call)
 }
 
 // A run: the number of the reply, and 256 times the steps that were done.
 pub fn run(block: &mut [u8], mem: &mut [u8], budget: u32) -> u64
     ensures { called result block.new mem.new ≡ run_on block.old (lent mem.old) budget }
 {
-    let read = opened(&*block, &*mem);
-    let given = read.cpu;
-    let refused = read.reply;
-    if !is_done(refused) {
-        return number_of(refused) as u64;
+    let Answer { reply, cpu } = opened(&*block, &*mem);
+    if !is_done(reply) {
+        return number_of(reply) as u64;
     }
-    let ran = run_call(given, mem, budget);
-    let reply = ran.reply;
-    let last = ran.cpu;
-    store_after(0 < ran.count, last, block);
-    number_of(reply) as u64 + 256 * ran.count as u64
+    let Ran { reply, count, cpu } = run_call(cpu, mem, budget);
+    store_after(0 < count, cpu, block);
+    number_of(reply) as u64 + 256 * count as u64
 }
 
 // Returns from an exception: the number of the reply.
@@ -61,14 +47,14 @@ pub fn rte(block: &mut [u8], mem: &mut [u8]) -> u32
 
 // Enters an exception, keeping the mask: the number of the reply.
 pub fn exception(block: &mut [u8], mem: &mut [u8], vector: u8, pc: u32) -> u32
-    ensures { called result block.new mem.new ≡ exception_on block.old (lent mem.old) vector pc Kept }
+    ensures { called result block.new mem.new ≡ exception_on block.old (lent mem.old) vector pc None }
 {
     exception_call(block, mem, vector, pc)
 }
 
 // Enters an exception at a level: the number of the reply.
 pub fn exception_at(block: &mut [u8], mem: &mut [u8], vector: u8, pc: u32, level: u8) -> u32
-    ensures { called result block.new mem.new ≡ exception_on block.old (lent mem.old) vector pc (To level) }
+    ensures { called result block.new mem.new ≡ exception_on block.old (lent mem.old) vector pc (Some level) }
 {
     exception_at_call(block, mem, vector, pc, level)
 }

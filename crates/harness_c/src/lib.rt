@@ -1,8 +1,7 @@
 // The calls that a host makes in C: a state block and a memory, or a text and a memory, each a pointer and a length.
 #![tactic(auto)]
 
-ghost use Rattle.std.specs.Prelude.{◌≡◌};
-ghost use Rattle.manual.specs.declared.Level.TheVariants.{Kept, To};
+ghost use Rattle.std.specs.Prelude.{◌≡◌, None, Some};
 ghost use Rattle.manual.specs.Lent.{lent};
 ghost use Rattle.instructions.specs.HostCalls.{called, exception_on, interrupt_on, rte_on, step_on, run_on};
 ghost use Rattle.srecord.specs.TextCalls.{text_called, read_call, write_call};
@@ -34,7 +33,7 @@ pub extern "C" fn rte(block: &mut [u8], mem: &mut [u8]) -> u32
 // Enters an exception, keeping the mask: the number of the reply.
 #[unsafe(no_mangle)]
 pub extern "C" fn exception(block: &mut [u8], mem: &mut [u8], vector: u8, pc: u32) -> u32
-    ensures { called result block.new mem.new ≡ exception_on block.old (lent mem.old) vector pc Kept }
+    ensures { called result block.new mem.new ≡ exception_on block.old (lent mem.old) vector pc None }
 {
     harness::exception(block, mem, vector, pc)
 }
@@ -48,7 +47,7 @@ pub extern "C" fn exception_at(
     pc: u32,
     level: u8,
 ) -> u32
-    ensures { called result block.new mem.new ≡ exception_on block.old (lent mem.old) vector pc (To level) }
+    ensures { called result block.new mem.new ≡ exception_on block.old (lent mem.old) vector pc (Some level) }
 {
     harness::exception_at(block, mem, vector, pc, level)
 }

@@ -1,2 +1,3 @@
-pub mod Texts
+pub mod HeadLaws
+pub mod Loads
 pub mod TextLaws

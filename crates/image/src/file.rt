@@ -1,15 +1,14 @@
 // An image file, read into a memory and a state.
-ghost use Rattle.std.specs.Prelude.{◌≡◌, ◌+◌, ◌*◌, ◌≤◌, length, get_or};
-ghost use Rattle.manual.specs.Memory.{value_at};
-ghost use Rattle.manual.specs.Block.{fresh as fresh_of};
-ghost use Rattle.manual.specs.Image.{image_memory, status_at, program_at, image_state, image_reply, image_bytes, image, load_image};
+ghost use Rattle.std.specs.Prelude.{◌≡◌, ◌-◌, ◌≤◌, ◌++◌, false, length, replicate, take, drop, IfOk, IfErr};
+ghost use Rattle.manual.specs.Image.{image_memory, program_at, image_state, image_reply, load_image};
+ghost use Rattle.manual.specs.Reply.{is_done};
+ghost use Rattle.image.specs.Loads.{image_read, read_of};
 
-use super::Loaded;
+use crate::Loaded;
 use manual::block_places::{HEAD_BYTES, LENGTH_AT, VERSION_AT};
 use manual::{Cpu, Reply};
 use memory::long_at;
 use state::fresh::fresh;
-use state::replies::is_done;
 use state::status::admitted;
 use word::registers::{with_address, with_pc, with_sr};
 
@@ -24,104 +23,62 @@ const BUDGET_AT: usize = 15;
 
 const PROGRAM_AT: usize = 19;
 
-const IMAGE_HEAD: usize = 14;
-
 const IMAGE_MEMORY: usize = 49_152;
 
-const LENGTH_MOST: usize = IMAGE_MEMORY + IMAGE_HEAD;
-
-fn status_at(file: &[u8]) -> u16
-    requires { program_at ≤ length file.now }
-    ensures { result ≡ value_at file.now status_at 2 }
+#[tactic(auto, using(memory::specs::MemoryLaws::value_two), unfolding(manual::specs::Image::image_state))]
+fn image_state(head: &[u8; PROGRAM_AT]) -> Cpu
+    ensures { result ≡ image_state head.now }
 {
-    file[STATUS_AT] as u16 * 0x100 + file[STATUS_AT + 1] as u16
+    let sr = u16::from_be_bytes([head[STATUS_AT], head[STATUS_AT + 1]]);
+    let cpu = with_address(fresh(), 7, long_at(head, STACK_AT));
+    with_sr(with_pc(cpu, long_at(head, START_AT)), sr)
 }
 
-fn image_state(file: &[u8]) -> Cpu
-    requires { program_at ≤ length file.now }
-    ensures { result ≡ image_state file.now }
-{
-    let a7 = long_at(file, STACK_AT);
-    let pc = long_at(file, START_AT);
-    let sr = status_at(file);
-    with_sr(with_pc(with_address(fresh(), 7, a7), pc), sr)
-}
-
-fn image_reply(file: &[u8], mem: &[u8]) -> Reply
-    ensures { result ≡ image_reply file.now mem.now }
+// A file that is accepted, cut where its program begins, or why it is refused.
+fn accepted<'a>(file: &'a [u8], mem: &[u8]) -> Result<(&'a [u8; PROGRAM_AT], &'a [u8]), Reply>
+    ensures refused { IfErr result (λ reply. (reply ≡ image_reply file.now mem.now) × (is_done reply ≡ false)) }
+    ensures reply { IfOk result (λ _. image_reply file.now mem.now ≡ Reply.Done) }
+    ensures parts { IfOk result (λ (head, program). (head.now ≡ take program_at file.now) × (program.now ≡ drop program_at file.now)) }
+    ensures fits { IfOk result (λ (_, program). (length program.now ≤ image_memory) × (length mem.now ≡ image_memory)) }
 {
     if file.len() < HEAD_BYTES {
-        return Reply::WrongLength;
+        return Err(Reply::WrongLength);
     }
     if file[VERSION_AT] != 1 {
-        return Reply::WrongVersion;
+        return Err(Reply::WrongVersion);
     }
-    let l = long_at(file, LENGTH_AT) as usize;
-    if l < IMAGE_HEAD {
-        return Reply::WrongLength;
+    let Some((head, program)) = file.split_first_chunk::<PROGRAM_AT>() else {
+        return Err(Reply::WrongLength);
+    };
+    if long_at(head, LENGTH_AT) as usize != file.len() - HEAD_BYTES
+        || program.len() > IMAGE_MEMORY
+        || mem.len() != IMAGE_MEMORY
+    {
+        return Err(Reply::WrongLength);
     }
-    if LENGTH_MOST < l {
-        return Reply::WrongLength;
+    if !admitted(image_state(head)) {
+        return Err(Reply::NotAdmitted);
     }
-    if file.len() != HEAD_BYTES + l {
-        return Reply::WrongLength;
-    }
-    if mem.len() != IMAGE_MEMORY {
-        return Reply::WrongLength;
-    }
-    if admitted(image_state(file)) {
-        return Reply::Done;
-    }
-    Reply::NotAdmitted
+    Ok((head, program))
 }
 
-// The byte for an address: 0 after the file's end.
-fn image_byte(file: &[u8], at: usize) -> u8
-    requires { program_at ≤ length file.now }
-    ensures { result ≡ get_or file.now (program_at + at) 0 }
+// The program at the start of memory, and zeros after it.
+fn fill(program: &[u8], mem: &mut [u8])
+    requires { length program.now ≤ length mem.old }
+    ensures { mem.new ≡ program.now ++ replicate (length mem.old - length program.now) 0 }
 {
-    if at < file.len() - PROGRAM_AT {
-        return file[PROGRAM_AT + at];
-    }
-    0
-}
-
-fn fill(file: &[u8], mem: &mut [u8])
-    requires { (program_at ≤ length file.now) × (length file.now ≤ program_at + image_memory) × (length mem.old ≡ image_memory) }
-    ensures { mem.new ≡ image_bytes file.now }
-{
-    let mut at: usize = 0;
-    while at < mem.len() {
-        mem[at] = image_byte(file, at);
-        at += 1;
-    }
-}
-
-fn not_loaded(reply: Reply) -> Loaded
-    ensures { (result.reply ≡ reply) × (result.budget ≡ 0) × (result.cpu ≡ fresh_of) }
-{
-    let cpu = fresh();
-    Loaded {
-        reply: reply,
-        budget: 0,
-        cpu: cpu,
-    }
+    let (front, rest) = mem.split_at_mut(program.len());
+    front.copy_from_slice(program);
+    rest.fill(0);
 }
 
 // The machine that an image file says, its memory in place; refused with 9, 8, 9 or 2, in this order.
-pub fn read_image(file: &[u8], mem: &mut [u8]) -> Loaded
-    ensures { image result.reply result.budget result.cpu mem.new ≡ load_image file.now mem.old }
+pub fn read_image(file: &[u8], mem: &mut [u8]) -> Result<Loaded, Reply>
+    ensures { image_read result mem.new ≡ read_of (load_image file.now mem.old) }
 {
-    let reply = image_reply(file, &*mem);
-    if !is_done(reply) {
-        return not_loaded(reply);
-    }
-    let budget = long_at(file, BUDGET_AT);
-    let cpu = image_state(file);
-    fill(file, mem);
-    Loaded {
-        reply: reply,
-        budget: budget,
-        cpu: cpu,
-    }
+    let (head, program) = accepted(file, mem)?;
+    let budget = long_at(head, BUDGET_AT);
+    let cpu = image_state(head);
+    fill(program, mem);
+    Ok(Loaded { budget, cpu })
 }

@@ -4,19 +4,15 @@
 pub mod file;
 pub mod print;
 
-use manual::{Cpu, Reply};
+use arrayvec::ArrayString;
+use manual::Cpu;
 
-// What a read of an image file answers: the reply, the budget, and the state.
+// What an image file that is accepted says: the budget and the state.
 #[derive(Clone, Copy)]
 pub struct Loaded {
-    pub reply: Reply,
     pub budget: u32,
     pub cpu: Cpu,
 }
 
-// A text of `len` bytes, and zeros after it.
-#[derive(Clone, Copy)]
-pub struct Text {
-    pub bytes: [u8; 256],
-    pub len: usize,
-}
+// What is printed: its bytes lie in the value itself, since the programs use no heap.
+pub type Text = ArrayString<256>;

@@ -1,154 +1,83 @@
-// What a run of an image prints.
-ghost use Rattle.std.specs.Prelude.{◌≡◌, [], ◌∷◌, ◌++◌, ◌+◌, ◌≤◌, ◌<◌};
-ghost use Rattle.manual.specs.Image.{digit as digit_of, hex, decimal as decimal_of, longs as longs_of, newline, answer_line, steps_line, sr_line, data_line, address_line, run_text, printed, text_of};
-ghost use Rattle.image.specs.Texts.{none as none_of, put as put_of, appended};
+// What a run of an image prints. `write!` makes none of it: its contract leaves open whether it answers Ok, and a text cannot fail.
+ghost use Rattle.std.specs.Prelude.{◌≡◌, [], ◌∷◌, ◌++◌, ◌+◌, ◌*◌, ◌≤◌, ◌<◌, length};
+ghost use Rattle.arrayvec.specs.ArrayString.{array_string_len};
+ghost use Rattle.manual.specs.Image.{hex, longs, newline, answer_line, steps_line, run_text};
 
-use super::Text;
+use crate::Text;
+use itoa::Buffer;
 use manual::{Cpu, Reply};
 use state::replies::number_of;
 
-fn none() -> Text
-    ensures { result ≡ none_of }
+// The low digits of a number to the base 16, as many as are asked for.
+#[tactic(auto, unfolding(manual::specs::Image::hex, manual::specs::Image::digit))]
+fn put_hex(text: &mut Text, digits: usize, v: u32)
+    requires { array_string_len text.old + digits ≤ 256 }
+    ensures bytes { text.new.bytes ≡ text.old.bytes ++ hex digits v }
+    ensures len { array_string_len text.new ≡ array_string_len text.old + digits }
 {
-    Text {
-        bytes: [0; 256],
-        len: 0,
+    if digits > 0 {
+        put_hex(text, digits - 1, v / 16);
+        text.push(char::from_digit(v % 16, 16).unwrap());
     }
 }
 
-// A full text stays as it is; none that is made here gets full.
-fn put(t: Text, b: u8) -> Text
-    ensures { result ≡ put_of t b }
+// A line of one number: "answer", "pc", "sr", "other", "macsr".
+fn hex_line(text: &mut Text, name: &str, digits: usize, v: u32)
+    requires { array_string_len text.old + (length name.now + digits + 1) ≤ 256 }
+    ensures bytes { text.new.bytes ≡ text.old.bytes ++ (name.now ++ (hex digits v ++ (newline ∷ []))) }
+    ensures len { array_string_len text.new ≡ array_string_len text.old + (length name.now + digits + 1) }
 {
-    let at = t.len;
-    if 256 <= at {
-        return t;
+    text.push_str(name);
+    put_hex(text, digits, v);
+    text.push('\n');
+}
+
+// A line of registers: "d" and "a".
+fn registers_line(text: &mut Text, name: &str, registers: &[u32])
+    requires { array_string_len text.old + (length name.now + 9 * length registers.now + 1) ≤ 256 }
+    ensures bytes { text.new.bytes ≡ text.old.bytes ++ (name.now ++ (longs registers.now 0 (length registers.now) ++ (newline ∷ []))) }
+    ensures len { array_string_len text.new ≡ array_string_len text.old + (length name.now + 9 * length registers.now + 1) }
+{
+    text.push_str(name);
+    for v in registers {
+        text.push(' ');
+        put_hex(text, 8, *v);
     }
-    let mut next = t;
-    next.bytes[at] = b;
-    next.len = at + 1;
-    next
+    text.push('\n');
 }
 
-fn letters(t: Text, word: &[u8]) -> Text
-    ensures { result ≡ appended t word.now }
+fn steps_line(text: &mut Text, count: u32)
+    requires { array_string_len text.old + 17 ≤ 256 }
+    ensures bytes { text.new.bytes ≡ text.old.bytes ++ steps_line count }
+    ensures len { array_string_len text.new ≤ array_string_len text.old + 17 }
 {
-    let mut u = t;
-    let mut i: usize = 0;
-    while i < word.len() {
-        u = put(u, word[i]);
-        i += 1;
-    }
-    u
-}
-
-fn digit(d: u32) -> u8
-    requires { d < 16 }
-    ensures { result ≡ digit_of d }
-{
-    if d < 10 {
-        return 48 + d as u8;
-    }
-    87 + d as u8
-}
-
-fn hex_byte(t: Text, v: u32) -> Text
-    ensures { result ≡ appended t (hex 2 v) }
-{
-    put(put(t, digit(v / 16 % 16)), digit(v % 16))
-}
-
-fn hex_word(t: Text, v: u32) -> Text
-    ensures { result ≡ appended t (hex 4 v) }
-{
-    hex_byte(hex_byte(t, v / 0x100), v)
-}
-
-fn hex_long(t: Text, v: u32) -> Text
-    ensures { result ≡ appended t (hex 8 v) }
-{
-    hex_word(hex_word(t, v / 0x1_0000), v)
-}
-
-fn decimal(t: Text, v: u32) -> Text
-    ensures { result ≡ appended t (decimal_of 10 v) }
-{
-    if v < 10 {
-        return put(t, digit(v));
-    }
-    put(decimal(t, v / 10), digit(v % 10))
-}
-
-fn longs(t: Text, g: &[u32; 16], from: usize) -> Text
-    requires { from ≤ 8 }
-    ensures { result ≡ appended t (longs_of g.now from 8) }
-{
-    let mut u = t;
-    let mut i: usize = 0;
-    while i < 8 {
-        u = hex_long(put(u, b' '), g[from + i]);
-        i += 1;
-    }
-    u
-}
-
-fn answer_line(t: Text, reply: Reply) -> Text
-    ensures { result ≡ appended t (answer_line reply) }
-{
-    let u = letters(t, &[b'a', b'n', b's', b'w', b'e', b'r', b' ']);
-    put(put(u, digit(number_of(reply))), b'\n')
-}
-
-fn steps_line(t: Text, count: u32) -> Text
-    ensures { result ≡ appended t (steps_line count) }
-{
-    let u = letters(t, &[b's', b't', b'e', b'p', b's', b' ']);
-    put(decimal(u, count), b'\n')
-}
-
-// A line of one long: "pc", "other", "macsr".
-fn long_line(t: Text, word: &[u8], v: u32) -> Text
-    ensures { result ≡ appended t (word.now ++ (hex 8 v ++ (newline ∷ []))) }
-{
-    put(hex_long(letters(t, word), v), b'\n')
-}
-
-fn sr_line(t: Text, cpu: Cpu) -> Text
-    ensures { result ≡ appended t (sr_line cpu) }
-{
-    let u = letters(t, &[b's', b'r', b' ']);
-    put(hex_word(u, cpu.sr as u32), b'\n')
-}
-
-fn data_line(t: Text, cpu: Cpu) -> Text
-    ensures { result ≡ appended t (data_line cpu) }
-{
-    let g = cpu.r;
-    put(longs(put(t, b'd'), &g, 0), b'\n')
-}
-
-fn address_line(t: Text, cpu: Cpu) -> Text
-    ensures { result ≡ appended t (address_line cpu) }
-{
-    let g = cpu.r;
-    put(longs(put(t, b'a'), &g, 8), b'\n')
+    text.push_str("steps ");
+    text.push_str(Buffer::new().format(count));
+    text.push('\n');
 }
 
 // The text of a refused file: the answer's line.
+#[tactic(auto, unfolding(manual::specs::Image::answer_line, manual::specs::Image::hex))]
 pub fn answer_text(reply: Reply) -> Text
-    ensures { printed result.bytes result.len ≡ text_of (answer_line reply) }
+    ensures { result.bytes ≡ answer_line reply }
 {
-    answer_line(none(), reply)
+    let mut text = Text::new();
+    hex_line(&mut text, "answer ", 1, number_of(reply));
+    text
 }
 
 // The text of a run: answer, steps, PC, SR, registers, the other pointer and MACSR.
+#[tactic(auto, unfolding(manual::specs::Image::answer_line))]
 pub fn run_text(reply: Reply, count: u32, cpu: Cpu) -> Text
-    ensures { printed result.bytes result.len ≡ text_of (run_text reply count cpu) }
+    ensures { result.bytes ≡ run_text reply count cpu }
 {
-    let answered = steps_line(answer_line(none(), reply), count);
-    let at = sr_line(long_line(answered, &[b'p', b'c', b' '], cpu.pc), cpu);
-    let all = address_line(data_line(at, cpu), cpu);
-    let macsr = cpu.emac.macsr;
-    let other = long_line(all, &[b'o', b't', b'h', b'e', b'r', b' '], cpu.other);
-    long_line(other, &[b'm', b'a', b'c', b's', b'r', b' '], macsr)
+    let mut text = answer_text(reply);
+    steps_line(&mut text, count);
+    hex_line(&mut text, "pc ", 8, cpu.pc);
+    hex_line(&mut text, "sr ", 4, u32::from(cpu.sr));
+    registers_line(&mut text, "d", &cpu.r[..8]);
+    registers_line(&mut text, "a", &cpu.r[8..]);
+    hex_line(&mut text, "other ", 8, cpu.other);
+    hex_line(&mut text, "macsr ", 8, cpu.emac.macsr);
+    text
 }

@@ -5,7 +5,7 @@ use lib.{Dec.eqb, Count.count_leading_zeros}
 use Rattle.manual.specs.declared.{Size.Size, Size.TheVariants.Byte, Size.TheVariants.Word, Size.TheVariants.Long, Operand.TheVariants.Immediate, Change.Change, Logic.Logic, Logic.TheVariants.And, Logic.TheVariants.Or}
 use Rattle.manual.specs.declared.{Logic.TheVariants.Eor, Sum.Sum}
 use Rattle.manual.specs.{Word.plus, Bits.logic, Bits.bit_of, Bits.changed_bit, Bits.reversed_bits, Bits.reversed_bytes, Registers.data_of, Registers.no_write, Registers.write_data, Flags.move_codes, Flags.kept_codes, Flags.sum_codes}
-use Rattle.manual.specs.{Flags.compare_codes, Flags.test_codes, Flags.sum_or_difference, Flags.subtracted, Memory.Memory, Memory.load, Address.extension, Address.moved, Address.value, Change.done, Change.reading, Change.illegal, Change.put_to}
+use Rattle.manual.specs.{Flags.compare_codes, Flags.test_codes, Flags.sum_or_difference, Flags.subtracted, Memory.Memory, Memory.load, Address.extension, Address.value, Change.done, Change.reading, Change.illegal, Change.put_to}
 use Rattle.manual.specs.{Change.reading_place, Fields.upper, Fields.mode, Fields.register, Fields.bit_operator}
 use Rattle.instructions.specs.{Rows.first_row, Rows.by_row}
 

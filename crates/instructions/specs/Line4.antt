@@ -7,7 +7,7 @@ use Rattle.manual.specs.declared.{Action.TheVariants.Status, Action.TheVariants.
 use Rattle.manual.specs.declared.{Action.TheVariants.MoveControl, ControlRegister.ControlRegister}
 use Rattle.manual.specs.{Word.plus, Word.minus, Word.cut, Word.merged, Word.sign_extended, Bits.bit_of, Bits.with_bit, Multiply.long_product, Multiply.signed_long_product, Divide.quotient, Divide.signed_quotient, Divide.overflow_codes}
 use Rattle.manual.specs.{Registers.data_of, Registers.address_of, Registers.no_write, Registers.write_data, Registers.write_address, Flags.flag_x, Flags.flag_v, Flags.move_codes, Flags.kept_codes, Flags.sum_codes, Flags.extended_codes}
-use Rattle.manual.specs.{Flags.subtracted, Exceptions.supervisor, Memory.Memory, Memory.load, Address.extension, Address.moved, Address.control, Address.destination, Address.operand_of, Change.reading_source, Change.done, Change.store}
+use Rattle.manual.specs.{Flags.subtracted, Exceptions.supervisor, Memory.Memory, Memory.load, Address.extension, Address.control, Address.destination, Address.operand_of, Change.reading_source, Change.done, Change.store}
 use Rattle.manual.specs.{Change.acting, Change.enter, Change.enter_after, Change.illegal, Change.privilege, Change.jump, Change.push, Change.reading, Change.reaching, Change.put_to, Change.updating, Change.updated}
 use Rattle.manual.specs.{Fields.upper, Fields.mode, Fields.register, Fields.size_field, Fields.low_four, Fields.high_four, Fields.control_field, Fields.bits, Control.control_register}
 use Rattle.instructions.specs.{Rows.first_row, Rows.by_row}

@@ -6,7 +6,7 @@ use Rattle.manual.specs.declared.{Size.TheVariants.Word, Size.TheVariants.Long, 
 use Rattle.manual.specs.declared.{EmacPart.TheVariants.Mask, Action.Action, Action.TheVariants.Nothing, Action.TheVariants.Accumulate, Action.TheVariants.SetAcc, Action.TheVariants.SetExt, Action.TheVariants.SetMacsr}
 use Rattle.manual.specs.declared.{Action.TheVariants.SetMask, Action.TheVariants.CopyAcc, Action.TheVariants.ClearAcc}
 use Rattle.manual.specs.{Word.plus, Word.minus, Word.sign_extended, Bits.bit_of, Registers.address_of, Registers.general, Registers.no_write, Registers.write_address, Registers.write_general, Flags.codes, Flags.move_codes, Flags.kept_codes}
-use Rattle.manual.specs.{Memory.Memory, Memory.load, Address.moved, Address.destination, Change.reading_source, Change.done, Change.acting, Change.enter, Change.enter_after, Change.reading, Change.put_to}
+use Rattle.manual.specs.{Memory.Memory, Memory.load, Address.destination, Change.reading_source, Change.done, Change.acting, Change.enter, Change.enter_after, Change.reading, Change.put_to}
 use Rattle.manual.specs.{Emac.mode_of, Emac.word_operand, Emac.acc_of, Emac.read_acc, Emac.read_ext, Emac.fractional, Fields.upper, Fields.mode, Fields.register, Fields.low_four, Fields.high_four, Fields.source_acc, Fields.acc_field, Fields.ext_field}
 use Rattle.manual.specs.{Fields.mac_register, Fields.bits, Fields.word_operands}
 use Rattle.instructions.specs.{Rows.first_row, Rows.by_row}

@@ -2,7 +2,7 @@
 use Rattle.std.specs.Prelude.{ℕ}
 use mathlib.Core.{List.List, List.[], List.◌∷◌}
 use Rattle.manual.specs.declared.{Size.Size, Size.TheVariants.Byte, Size.TheVariants.Word, Size.TheVariants.Long, Change.Change, Destination.Destination}
-use Rattle.manual.specs.{Word.plus, Word.sign_extended, Registers.write_address, Registers.written, Flags.move_codes, Flags.kept_codes, Address.operand, Address.moved, Address.destination_of, Change.reading_source, Change.done, Change.put}
+use Rattle.manual.specs.{Word.plus, Word.sign_extended, Registers.write_address, Registers.written, Flags.move_codes, Flags.kept_codes, Address.operand, Address.destination_of, Change.reading_source, Change.done, Change.put}
 use Rattle.manual.specs.{Memory.Memory, Fields.upper, Fields.upper_mode}
 use Rattle.instructions.specs.{Rows.first_row, Rows.by_row}
 

@@ -12,22 +12,21 @@ use Rattle.manual.specs.Change.{done, push, jump, illegal, refused, reaching}
 use Rattle.manual.specs.Memory.{Memory}
 use Rattle.instructions.specs.Line4.{lea, pea, jsr, jmp}
 use Rattle.line4.specs.declared.control.Way.{Way}
-use Rattle.line4.specs.declared.control.Way.TheVariants.{To, Ends}
 
-abbrev pub way_by : ℕ → ℕ → ℕ → Option (Result ℕ Fault) → Way
-way_by sr at next (Some (Ok a)) = To a next
-way_by sr at next (Some (Err x)) = Ends (refused x)
-way_by sr at next None = Ends (illegal at sr)
+abbrev pub way_by : ℕ → ℕ → ℕ → Option (Result ℕ Fault) → Result Way Change
+way_by sr at next (Some (Ok a)) = Ok (record { address = a; next = next })
+way_by sr at next (Some (Err x)) = Err (refused x)
+way_by sr at next None = Err (illegal at sr)
 
-unfoldable pub control_address : List ℕ → ℕ → ℕ → Memory → ℕ → Way
+unfoldable pub control_address : List ℕ → ℕ → ℕ → Memory → ℕ → Result Way Change
 control_address g at sr m op =
     let pc : ℕ = plus at 2 in
     let target : Operand = operand (op / 8 % 8) (op % 8) in
     way_by sr at (plus pc (extension target Long)) (control g m pc target)
 
-abbrev pub along : Way → (ℕ → ℕ → Change) → Change
-along (To a next) f = f a next
-along (Ends e) f = e
+abbrev pub along : Result Way Change → (ℕ → ℕ → Change) → Change
+along (Ok way) f = f way.address way.next
+along (Err e) f = e
 
 -- what goes on with an address goes along the way to it
 by_way : (sr at next : ℕ) (r : Option (Result ℕ Fault)) (f : ℕ → ℕ → Change) → reaching sr at r (λ a. f a next) ≡ along (way_by sr at next r) f

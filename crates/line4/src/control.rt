@@ -23,24 +23,24 @@ pub fn nop(at: u32, sr: u16) -> Change
     jump(sr, plus(at, 2))
 }
 
-// The address that LEA, PEA, JSR and JMP work on, with the next instruction's; or the change of an instruction that gets none.
+// The address that LEA, PEA, JSR and JMP work on, and the next instruction's.
 #[derive(Clone, Copy)]
-pub enum Way {
-    To(u32, u32),
-    Ends(Change),
+pub struct Way {
+    pub address: u32,
+    pub next: u32,
 }
 
-fn control_address(g: &[u32; 16], at: u32, sr: u16, mem: &[u8], op: u32) -> Way
+// The way, or the change of an instruction that gets none.
+fn control_address(g: &[u32; 16], at: u32, sr: u16, mem: &[u8], op: u32) -> Result<Way, Change>
     ensures { result ≡ control_address_of g.now at sr (mapped mem.now) op }
 {
     let pc = plus(at, 2);
     let target = operand(op / 8 % 8, op % 8);
-    let Some(got) = control(g, mem, pc, target) else {
-        return Way::Ends(illegal(at, sr));
-    };
-    match got {
-        Ok(a) => Way::To(a, plus(pc, extension(target, Size::Long))),
-        Err(x) => Way::Ends(refused(x)),
+    let next = plus(pc, extension(target, Size::Long));
+    match control(g, mem, pc, target) {
+        Some(Ok(address)) => Ok(Way { address, next }),
+        Some(Err(x)) => Err(refused(x)),
+        None => Err(illegal(at, sr)),
     }
 }
 
@@ -48,11 +48,14 @@ fn control_address(g: &[u32; 16], at: u32, sr: u16, mem: &[u8], op: u32) -> Way
 pub fn lea(g: &[u32; 16], at: u32, sr: u16, mem: &[u8], op: u32) -> Change
     ensures { result ≡ lea_of g.now at sr (mapped mem.now) op }
 {
-    let codes = kept_codes(sr);
-    let none = no_write();
     match control_address(g, at, sr, mem, op) {
-        Way::To(a, next) => done(next, codes, none, write_address(op / 512 % 8, a)),
-        Way::Ends(e) => e,
+        Ok(way) => done(
+            way.next,
+            kept_codes(sr),
+            no_write(),
+            write_address(op / 512 % 8, way.address),
+        ),
+        Err(e) => e,
     }
 }
 
@@ -61,8 +64,8 @@ pub fn pea(g: &[u32; 16], at: u32, sr: u16, mem: &[u8], op: u32) -> Change
     ensures { result ≡ pea_of g.now at sr (mapped mem.now) op }
 {
     match control_address(g, at, sr, mem, op) {
-        Way::To(a, next) => push(g, sr, next, a),
-        Way::Ends(e) => e,
+        Ok(way) => push(g, sr, way.next, way.address),
+        Err(e) => e,
     }
 }
 
@@ -71,8 +74,8 @@ pub fn jsr(g: &[u32; 16], at: u32, sr: u16, mem: &[u8], op: u32) -> Change
     ensures { result ≡ jsr_of g.now at sr (mapped mem.now) op }
 {
     match control_address(g, at, sr, mem, op) {
-        Way::To(a, next) => push(g, sr, a, next),
-        Way::Ends(e) => e,
+        Ok(way) => push(g, sr, way.address, way.next),
+        Err(e) => e,
     }
 }
 
@@ -81,8 +84,8 @@ pub fn jmp(g: &[u32; 16], at: u32, sr: u16, mem: &[u8], op: u32) -> Change
     ensures { result ≡ jmp_of g.now at sr (mapped mem.now) op }
 {
     match control_address(g, at, sr, mem, op) {
-        Way::To(a, _) => jump(sr, a),
-        Way::Ends(e) => e,
+        Ok(way) => jump(sr, way.address),
+        Err(e) => e,
     }
 }
 
@@ -143,11 +146,10 @@ pub fn unlk(g: &[u32; 16], at: u32, sr: u16, mem: &[u8], op: u32) -> Change
 fn many(storing: bool, sr: u16, next: u32, mask: u32, a: u32) -> Change
     ensures { result ≡ acting_of sr next no_write (many_of storing mask a) }
 {
-    let none = no_write();
     if storing {
-        acting(sr, next, none, Action::StoreMany(mask, a))
+        acting(sr, next, no_write(), Action::StoreMany(mask, a))
     } else {
-        acting(sr, next, none, Action::LoadMany(mask, a))
+        acting(sr, next, no_write(), Action::LoadMany(mask, a))
     }
 }
 

@@ -33,7 +33,7 @@ fn replaced(at: u32, sr: u16, op: u32, v: u32) -> Change
     done(next, codes, no_write(), write_data(op % 8, v))
 }
 
-// EXTB: a byte to a long.
+// EXTB: a byte to a long. EXTB, EXT.L and their kin are a definition each; `replaced` is what they share.
 pub fn extb(g: &[u32; 16], at: u32, sr: u16, op: u32) -> Change
     ensures { result ≡ extb_of g.now at sr op }
 {
@@ -48,11 +48,10 @@ pub fn ext_w(g: &[u32; 16], at: u32, sr: u16, op: u32) -> Change
     let v = cut(Size::Word, sign_extended(Size::Byte, old));
     let next = plus(at, 2);
     let codes = move_codes(Size::Word, v, sr);
-    let none = no_write();
     done(
         next,
         codes,
-        none,
+        no_write(),
         write_data(op % 8, merged(Size::Word, old, v)),
     )
 }
@@ -100,8 +99,7 @@ pub fn neg(g: &[u32; 16], at: u32, op: u32) -> Change
     let r = subtracted(Size::Long, data(g, op % 8), 0, false);
     let next = plus(at, 2);
     let codes = sum_codes(r);
-    let none = no_write();
-    done(next, codes, none, write_data(op % 8, r.value))
+    done(next, codes, no_write(), write_data(op % 8, r.value))
 }
 
 // NEGX: 0 less Dn and X.
@@ -111,8 +109,7 @@ pub fn negx(g: &[u32; 16], at: u32, sr: u16, op: u32) -> Change
     let r = subtracted(Size::Long, data(g, op % 8), 0, sr / 16 % 2 == 1);
     let next = plus(at, 2);
     let codes = extended_codes(sr, r);
-    let none = no_write();
-    done(next, codes, none, write_data(op % 8, r.value))
+    done(next, codes, no_write(), write_data(op % 8, r.value))
 }
 
 // NOT: every bit of Dn inverted.
@@ -137,15 +134,12 @@ pub fn tst(g: &[u32; 16], at: u32, sr: u16, mem: &[u8], op: u32) -> Change
 {
     let z = size_of(op / 64);
     let from = source(g, mem, plus(at, 2), op, z);
-    let got = from.got;
-    let v = match got {
+    let v = match from.got {
         Ok(v) => v,
         Err(x) => return refused(x),
     };
-    let next = from.next;
-    let first = from.moved;
     let codes = move_codes(z, v, sr);
-    done(next, codes, first, no_write())
+    done(from.next, codes, from.moved, no_write())
 }
 
 // TAS: the flags of a byte, whose highest bit is then set.
@@ -153,8 +147,7 @@ pub fn tas(g: &[u32; 16], at: u32, sr: u16, mem: &[u8], op: u32) -> Change
     ensures { result ≡ tas_of g.now at sr (mapped mem.now) op }
 {
     let to = destination(g, mem, plus(at, 2), op, Size::Byte);
-    let place = to.place;
-    let v = match fetch(g, mem, place, Size::Byte) {
+    let v = match fetch(g, mem, to.place, Size::Byte) {
         Ok(v) => v,
         Err(x) => return refused(x),
     };

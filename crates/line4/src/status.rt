@@ -90,11 +90,10 @@ pub fn move_from_usp(at: u32, sr: u16, other: u32, op: u32) -> Change
 {
     let next = plus(at, 2);
     let codes = kept_codes(sr);
-    let none = no_write();
     privileged(
         at,
         sr,
-        done(next, codes, none, write_address(op % 8, other)),
+        done(next, codes, no_write(), write_address(op % 8, other)),
     )
 }
 
@@ -105,9 +104,12 @@ pub fn move_from_sr(g: &[u32; 16], at: u32, sr: u16, op: u32) -> Change
     if op / 8 % 8 == 0 {
         let next = plus(at, 2);
         let codes = kept_codes(sr);
-        let none = no_write();
         let low = merged(Size::Word, data(g, op % 8), sr as u32);
-        privileged(at, sr, done(next, codes, none, write_data(op % 8, low)))
+        privileged(
+            at,
+            sr,
+            done(next, codes, no_write(), write_data(op % 8, low)),
+        )
     } else {
         privileged(at, sr, illegal(at, sr))
     }
@@ -118,17 +120,14 @@ pub fn move_to_sr(g: &[u32; 16], at: u32, sr: u16, mem: &[u8], op: u32) -> Chang
     ensures { result ≡ move_to_sr g.now at sr (mapped mem.now) op }
 {
     let from = source(g, mem, plus(at, 2), op, Size::Word);
-    let got = from.got;
-    let v = match got {
+    let v = match from.got {
         Ok(v) => v,
         Err(x) => return refused(x),
     };
-    let next = from.next;
-    let first = from.moved;
     if sr / 0x2000 % 2 == 1 {
-        acting(sr, next, first, Action::Status(v))
+        acting(sr, from.next, from.moved, Action::Status(v))
     } else {
-        enter_after(first, sr, 8, at)
+        enter_after(from.moved, sr, 8, at)
     }
 }
 
@@ -138,9 +137,8 @@ pub fn move_from_ccr(g: &[u32; 16], at: u32, sr: u16, op: u32) -> Change
 {
     let next = plus(at, 2);
     let codes = kept_codes(sr);
-    let none = no_write();
     let low = merged(Size::Word, data(g, op % 8), codes);
-    done(next, codes, none, write_data(op % 8, low))
+    done(next, codes, no_write(), write_data(op % 8, low))
 }
 
 // MOVE to CCR.
@@ -148,14 +146,11 @@ pub fn move_to_ccr(g: &[u32; 16], at: u32, mem: &[u8], op: u32) -> Change
     ensures { result ≡ move_to_ccr g.now at (mapped mem.now) op }
 {
     let from = source(g, mem, plus(at, 2), op, Size::Word);
-    let got = from.got;
-    let v = match got {
+    let v = match from.got {
         Ok(v) => v,
         Err(x) => return refused(x),
     };
-    let next = from.next;
-    let first = from.moved;
-    done(next, v % 32, first, no_write())
+    done(from.next, v % 32, from.moved, no_write())
 }
 
 // MOVEC to a control register or from it, or vector 8 for a user; vector 4 where the number names none.

@@ -1,3 +1,5 @@
+// Line A. An instruction takes what it may look at and no more, one by one as its definition does: a signature says what
+// it cannot depend on. So no struct goes round the registers, the address, the word and memory.
 #![tactic(auto)]
 
 pub mod linea;

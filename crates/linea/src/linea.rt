@@ -1,4 +1,6 @@
 // Line A by its rows.
+#![tactic(auto, unfolding(instructions::specs::LineA::line_a, instructions::specs::LineA::move_from_acc, instructions::specs::LineA::move_to_general, instructions::specs::Rows::place_in, manual::specs::Emac::read_ext))]
+
 ghost use Rattle.std.specs.Prelude.{◌≡◌, ◌+◌, ◌*◌, ◌/◌, ◌%◌, ◌<◌};
 ghost use Rattle.instructions.specs.LineA.{move_to_general, move_from_acc, line_a as line_a_of};
 ghost use Rattle.manual.specs.Memory.{mapped};
@@ -23,8 +25,8 @@ fn unit(macsr: u32, mask: u32, acc: &[u64; 4]) -> Emac
 {
     let held = *acc;
     Emac {
-        macsr: macsr,
-        mask: mask,
+        macsr,
+        mask,
         acc: held,
     }
 }

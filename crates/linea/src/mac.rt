@@ -1,4 +1,6 @@
 // Line A: MAC and MSAC, with and without a load.
+#![tactic(auto, unfolding(instructions::specs::LineA::load_address, instructions::specs::LineA::load_moves, instructions::specs::LineA::mac, instructions::specs::LineA::mac_load, instructions::specs::LineA::mac_registers, instructions::specs::LineA::mac_with_load, instructions::specs::LineA::operand))]
+
 ghost use Rattle.std.specs.Prelude.{◌≡◌, ◌+◌, ◌*◌, ◌/◌, ◌%◌, ◌<◌};
 ghost use Rattle.manual.specs.Memory.{mapped};
 ghost use Rattle.instructions.specs.LineA.{operand as operand_of, accumulating as accumulating_of, mac_registers, load_moves, load_address, mac_load, mac_with_load, mac as mac_of};
@@ -36,11 +38,10 @@ fn mac_registers(g: &[u32; 16], at: u32, sr: u16, macsr: u32, op: u32, w: u32) -
     ensures { result ≡ mac_registers g.now at sr macsr op w }
 {
     let next = plus(at, 4);
-    let none = no_write();
     let i = op / 128 % 2 + w / 16 % 2 * 2;
     let rx = general(g, op / 64 % 2 * 8 + op / 512 % 8);
     let ry = general(g, op % 16);
-    acting(sr, next, none, accumulating(macsr, w, i, rx, ry))
+    acting(sr, next, no_write(), accumulating(macsr, w, i, rx, ry))
 }
 
 fn load_moves(op: u32, a: u32) -> Write

@@ -1,4 +1,6 @@
 // Line A: moves to and from the EMAC, and MOV3Q.
+#![tactic(auto, unfolding(instructions::specs::LineA::mov3q, instructions::specs::LineA::move_acc_to_acc, instructions::specs::LineA::move_macsr_to_ccr, instructions::specs::LineA::move_to_emac, instructions::specs::LineA::move_to_general, instructions::specs::LineA::setting, instructions::specs::LineA::three_bits, instructions::specs::LineA::unassigned))]
+
 ghost use Rattle.std.specs.Prelude.{◌≡◌, ◌+◌, ◌*◌, ◌/◌, ◌%◌, ◌<◌};
 ghost use Rattle.manual.specs.Memory.{mapped};
 ghost use Rattle.instructions.specs.LineA.{move_macsr_to_ccr, move_to_general, move_acc_to_acc as move_acc_to_acc_of, setting as setting_of, move_to_emac, three_bits, mov3q as mov3q_of, unassigned as unassigned_of};
@@ -17,8 +19,7 @@ pub(crate) fn move_macsr_to_ccr(at: u32, macsr: u32) -> Change
     let n = macsr / 8 % 2 == 1;
     let z = macsr / 4 % 2 == 1;
     let v = macsr / 2 % 2 == 1;
-    let none = no_write();
-    done(next, codes(false, n, z, v, false), none, none)
+    done(next, codes(false, n, z, v, false), no_write(), no_write())
 }
 
 pub(crate) fn move_to_general(at: u32, sr: u16, op: u32, v: u32) -> Change
@@ -26,8 +27,7 @@ pub(crate) fn move_to_general(at: u32, sr: u16, op: u32, v: u32) -> Change
 {
     let next = plus(at, 2);
     let kept = kept_codes(sr);
-    let none = no_write();
-    done(next, kept, none, write_general(op % 16, v))
+    done(next, kept, no_write(), write_general(op % 16, v))
 }
 
 pub(crate) fn move_acc_to_acc(at: u32, sr: u16, op: u32) -> Change
@@ -63,16 +63,14 @@ pub(crate) fn move_to_emac(
     ensures { result ≡ move_to_emac part g.now at sr (mapped mem.now) op }
 {
     let from = source(g, mem, plus(at, 2), op, Size::Long);
-    let got = from.got;
-    let v = match got {
+    let v = match from.got {
         Ok(v) => v,
         Err(x) => return refused(x),
     };
-    let next = from.next;
-    let first = from.moved;
-    acting(sr, next, first, setting(part, op, v))
+    acting(sr, from.next, from.moved, setting(part, op, v))
 }
 
+// 0 is -1 here and 8 in Line5.quick_number: two definitions of two lines, with nothing else to share.
 fn three_bits(op: u32) -> u32
     ensures { result ≡ three_bits op }
 {
@@ -92,10 +90,8 @@ pub(crate) fn unassigned(g: &[u32; 16], at: u32, sr: u16, mem: &[u8], op: u32) -
     ensures { result ≡ unassigned_of g.now at sr (mapped mem.now) op }
 {
     let from = source(g, mem, plus(at, 2), op, Size::Long);
-    let got = from.got;
-    let first = from.moved;
-    match got {
-        Ok(_) => enter_after(first, sr, 10, at),
+    match from.got {
+        Ok(_) => enter_after(from.moved, sr, 10, at),
         Err(x) => refused(x),
     }
 }

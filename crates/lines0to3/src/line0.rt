@@ -3,6 +3,10 @@
 
 ghost use Rattle.std.specs.Prelude.{◌≡◌, ◌+◌, ◌*◌, ◌/◌, ◌%◌, ◌<◌};
 ghost use Rattle.manual.specs.Memory.{mapped};
+ghost use Rattle.manual.specs.Word.{plus as plus_of};
+ghost use Rattle.manual.specs.Registers.{no_write, write_data as write_data_of};
+ghost use Rattle.manual.specs.Flags.{kept_codes as kept_codes_of};
+ghost use Rattle.manual.specs.Change.{done as done_of};
 ghost use Rattle.instructions.specs.Line0.{bitrev as bitrev_of, byterev as byterev_of, ff1 as ff1_of, logic_immediate, sum_immediate, cmpi as cmpi_of, bit_of_data, bit_of_byte, bit_operation, bit_by_register, bit_by_immediate, line0 as line0_of};
 
 use super::bits::changed_bit;
@@ -17,32 +21,28 @@ use word::flags::{
 use word::registers::{data, no_write, write_data};
 use word::word::plus;
 
+// A long into Dn, with the condition codes as they were.
+fn replaced(at: u32, sr: u16, op: u32, v: u32) -> Change
+    ensures { result ≡ done_of (plus_of at 2) (kept_codes_of sr) no_write (write_data_of (op % 8) v) }
+{
+    done(
+        plus(at, 2),
+        kept_codes(sr),
+        no_write(),
+        write_data(op % 8, v),
+    )
+}
+
 fn bitrev(g: &[u32; 16], at: u32, sr: u16, op: u32) -> Change
     ensures { result ≡ bitrev_of g.now at sr op }
 {
-    let next = plus(at, 2);
-    let codes = kept_codes(sr);
-    let none = no_write();
-    done(
-        next,
-        codes,
-        none,
-        write_data(op % 8, reversed_bits(data(g, op % 8))),
-    )
+    replaced(at, sr, op, reversed_bits(data(g, op % 8)))
 }
 
 fn byterev(g: &[u32; 16], at: u32, sr: u16, op: u32) -> Change
     ensures { result ≡ byterev_of g.now at sr op }
 {
-    let next = plus(at, 2);
-    let codes = kept_codes(sr);
-    let none = no_write();
-    done(
-        next,
-        codes,
-        none,
-        write_data(op % 8, reversed_bytes(data(g, op % 8))),
-    )
+    replaced(at, sr, op, reversed_bytes(data(g, op % 8)))
 }
 
 fn ff1(g: &[u32; 16], at: u32, sr: u16, op: u32) -> Change
@@ -51,8 +51,12 @@ fn ff1(g: &[u32; 16], at: u32, sr: u16, op: u32) -> Change
     let v = data(g, op % 8);
     let next = plus(at, 2);
     let codes = move_codes(Size::Long, v, sr);
-    let none = no_write();
-    done(next, codes, none, write_data(op % 8, u32::leading_zeros(v)))
+    done(
+        next,
+        codes,
+        no_write(),
+        write_data(op % 8, u32::leading_zeros(v)),
+    )
 }
 
 // ANDI, ORI and EORI.
@@ -67,8 +71,7 @@ pub fn logic_immediate(l: Logic, g: &[u32; 16], at: u32, sr: u16, mem: &[u8], op
     let r = logic(l, data(g, op % 8), v);
     let next = plus(pc, 4);
     let codes = move_codes(Size::Long, r, sr);
-    let none = no_write();
-    done(next, codes, none, write_data(op % 8, r))
+    done(next, codes, no_write(), write_data(op % 8, r))
 }
 
 // ADDI and SUBI.
@@ -83,8 +86,7 @@ pub fn sum_immediate(add: bool, g: &[u32; 16], at: u32, mem: &[u8], op: u32) -> 
     let r = sum_or_difference(add, Size::Long, v, data(g, op % 8), false);
     let next = plus(pc, 4);
     let codes = sum_codes(r);
-    let none = no_write();
-    done(next, codes, none, write_data(op % 8, r.value))
+    done(next, codes, no_write(), write_data(op % 8, r.value))
 }
 
 fn cmpi(z: Size, g: &[u32; 16], at: u32, sr: u16, mem: &[u8], op: u32) -> Change
@@ -98,8 +100,7 @@ fn cmpi(z: Size, g: &[u32; 16], at: u32, sr: u16, mem: &[u8], op: u32) -> Change
     let next = plus(pc, extension(Operand::Immediate, z));
     let r = subtracted(z, v, data(g, op % 8), false);
     let codes = compare_codes(sr, r);
-    let none = no_write();
-    done(next, codes, none, none)
+    done(next, codes, no_write(), no_write())
 }
 
 // BTST, BCHG, BCLR and BSET of Dn.
@@ -109,11 +110,10 @@ pub fn bit_of_data(g: &[u32; 16], pc: u32, sr: u16, op: u32, n: u32) -> Change
     let v = data(g, op % 8);
     let was = bit_of(n, v);
     let codes = test_codes(sr, !was);
-    let none = no_write();
     done(
         pc,
         codes,
-        none,
+        no_write(),
         write_data(op % 8, changed_bit(op / 64, n, v)),
     )
 }
@@ -122,8 +122,7 @@ fn bit_of_byte(g: &[u32; 16], pc: u32, sr: u16, mem: &[u8], op: u32, n: u32) -> 
     ensures { result ≡ bit_of_byte g.now pc sr (mapped mem.now) op n }
 {
     let to = destination(g, mem, pc, op, Size::Byte);
-    let place = to.place;
-    let v = match fetch(g, mem, place, Size::Byte) {
+    let v = match fetch(g, mem, to.place, Size::Byte) {
         Ok(v) => v,
         Err(x) => return refused(x),
     };

@@ -48,28 +48,25 @@ fn op_move(z: Size, g: &[u32; 16], at: u32, sr: u16, mem: &[u8], op: u32) -> Cha
     ensures { result ≡ move_of z g.now at sr (mapped mem.now) op }
 {
     let from = source(g, mem, plus(at, 2), op, z);
-    let got = from.got;
-    let v = match got {
+    let v = match from.got {
         Ok(v) => v,
         Err(x) => return refused(x),
     };
-    let next = from.next;
-    let first = from.moved;
     let mode = op / 64 % 8;
     // Dn is no other case, only sooner done.
     if mode == 0 {
         let old = data(g, op / 512 % 8);
         let codes = move_codes(z, v, sr);
         done(
-            next,
+            from.next,
             codes,
-            first,
+            from.moved,
             write_data(op / 512 % 8, merged(z, old, v)),
         )
     } else {
-        let after = written(g, first);
+        let after = written(g, from.moved);
         let target = operand(mode, op / 512 % 8);
-        move_to(z, &after, sr, mem, next, first, target, v)
+        move_to(z, &after, sr, mem, from.next, from.moved, target, v)
     }
 }
 
@@ -77,19 +74,16 @@ fn movea(z: Size, g: &[u32; 16], at: u32, sr: u16, mem: &[u8], op: u32) -> Chang
     ensures { result ≡ movea_of z g.now at sr (mapped mem.now) op }
 {
     let from = source(g, mem, plus(at, 2), op, z);
-    let got = from.got;
-    let v = match got {
+    let v = match from.got {
         Ok(v) => v,
         Err(x) => return refused(x),
     };
-    let next = from.next;
-    let first = from.moved;
     let codes = kept_codes(sr);
     let whole = write_address(op / 512 % 8, sign_extended(z, v));
-    done(next, codes, first, whole)
+    done(from.next, codes, from.moved, whole)
 }
 
-// The size of a line's MOVE.
+// The size of a line's MOVE. This and the two tables below are those of MoveLines: a row is a number of one line, and has no size.
 fn move_size(line: u8) -> Size
     ensures { result ≡ move_size line }
 {

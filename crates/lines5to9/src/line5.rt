@@ -28,9 +28,8 @@ pub fn addq_address(g: &[u32; 16], at: u32, sr: u16, op: u32) -> Change
 {
     let next = plus(at, 2);
     let codes = kept_codes(sr);
-    let none = no_write();
     let r = more_or_less(op / 256 % 2 == 0, address(g, op % 8), quick_number(op));
-    done(next, codes, none, write_address(op % 8, r))
+    done(next, codes, no_write(), write_address(op % 8, r))
 }
 
 // ADDQ and SUBQ to any other operand.
@@ -47,20 +46,19 @@ pub fn scc(g: &[u32; 16], at: u32, sr: u16, op: u32) -> Change
 {
     let next = plus(at, 2);
     let codes = kept_codes(sr);
-    let none = no_write();
     let old = data(g, op % 8);
     if condition(op / 256, sr) {
         done(
             next,
             codes,
-            none,
+            no_write(),
             write_data(op % 8, merged(Size::Byte, old, 0xFF)),
         )
     } else {
         done(
             next,
             codes,
-            none,
+            no_write(),
             write_data(op % 8, merged(Size::Byte, old, 0)),
         )
     }

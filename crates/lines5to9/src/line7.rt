@@ -27,31 +27,30 @@ fn mvs(g: &[u32; 16], at: u32, sr: u16, mem: &[u8], op: u32) -> Change
 {
     let z = byte_or_word(op);
     let from = source(g, mem, plus(at, 2), op, z);
-    let got = from.got;
-    let v = match got {
+    let v = match from.got {
         Ok(v) => v,
         Err(x) => return refused(x),
     };
-    let next = from.next;
-    let first = from.moved;
     let whole = sign_extended(z, v);
     let codes = move_codes(Size::Long, whole, sr);
-    done(next, codes, first, write_data(op / 512 % 8, whole))
+    done(
+        from.next,
+        codes,
+        from.moved,
+        write_data(op / 512 % 8, whole),
+    )
 }
 
 fn mvz(g: &[u32; 16], at: u32, sr: u16, mem: &[u8], op: u32) -> Change
     ensures { result ≡ mvz_of g.now at sr (mapped mem.now) op }
 {
     let from = source(g, mem, plus(at, 2), op, byte_or_word(op));
-    let got = from.got;
-    let v = match got {
+    let v = match from.got {
         Ok(v) => v,
         Err(x) => return refused(x),
     };
-    let next = from.next;
-    let first = from.moved;
     let codes = move_codes(Size::Long, v, sr);
-    done(next, codes, first, write_data(op / 512 % 8, v))
+    done(from.next, codes, from.moved, write_data(op / 512 % 8, v))
 }
 
 // What a word of line 7 changes, taken for the instruction of a row.

@@ -20,20 +20,17 @@ pub fn add_to_data(add: bool, g: &[u32; 16], at: u32, mem: &[u8], op: u32) -> Ch
 {
     let z = size_of(op / 64);
     let from = source(g, mem, plus(at, 2), op, z);
-    let got = from.got;
-    let v = match got {
+    let v = match from.got {
         Ok(v) => v,
         Err(x) => return refused(x),
     };
-    let next = from.next;
-    let first = from.moved;
     let old = data(g, op / 512 % 8);
     let r = sum_or_difference(add, z, v, old, false);
     let codes = sum_codes(r);
     done(
-        next,
+        from.next,
         codes,
-        first,
+        from.moved,
         write_data(op / 512 % 8, merged(z, old, r.value)),
     )
 }
@@ -51,8 +48,7 @@ pub fn add_to_place(
     ensures { result ≡ add_to_place add z g.now at (mapped mem.now) op n }
 {
     let to = destination(g, mem, plus(at, 2), op, z);
-    let place = to.place;
-    let v = match fetch(g, mem, place, z) {
+    let v = match fetch(g, mem, to.place, z) {
         Ok(v) => v,
         Err(x) => return refused(x),
     };
@@ -68,7 +64,7 @@ pub fn add_to_memory(add: bool, g: &[u32; 16], at: u32, mem: &[u8], op: u32) -> 
     add_to_place(add, size_of(op / 64), g, at, mem, op, data(g, op / 512 % 8))
 }
 
-// A number added to a long, or taken from it, wrapped.
+// A number added to a long, or taken from it, wrapped. Line8.word_divided and LineC.product choose alike, each between two of its own.
 pub fn more_or_less(add: bool, old: u32, v: u32) -> u32
     ensures { result ≡ more_or_less add old v }
 {
@@ -80,17 +76,14 @@ pub fn adda(add: bool, z: Size, g: &[u32; 16], at: u32, sr: u16, mem: &[u8], op:
     ensures { result ≡ adda_of add z g.now at sr (mapped mem.now) op }
 {
     let from = source(g, mem, plus(at, 2), op, z);
-    let got = from.got;
-    let v = match got {
+    let v = match from.got {
         Ok(v) => v,
         Err(x) => return refused(x),
     };
-    let next = from.next;
-    let first = from.moved;
-    let old = address_after(g, first, op / 512 % 8);
+    let old = address_after(g, from.moved, op / 512 % 8);
     let r = more_or_less(add, old, sign_extended(z, v));
     let codes = kept_codes(sr);
-    done(next, codes, first, write_address(op / 512 % 8, r))
+    done(from.next, codes, from.moved, write_address(op / 512 % 8, r))
 }
 
 // ADDX, or SUBX.
@@ -102,11 +95,10 @@ pub fn addx(add: bool, g: &[u32; 16], at: u32, sr: u16, op: u32) -> Change
     let r = sum_or_difference(add, z, data(g, op % 8), old, sr / 16 % 2 == 1);
     let next = plus(at, 2);
     let codes = extended_codes(sr, r);
-    let none = no_write();
     done(
         next,
         codes,
-        none,
+        no_write(),
         write_data(op / 512 % 8, merged(z, old, r.value)),
     )
 }

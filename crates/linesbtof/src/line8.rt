@@ -30,23 +30,20 @@ fn div_w(signs: bool, g: &[u32; 16], at: u32, sr: u16, mem: &[u8], op: u32) -> C
     ensures { result ≡ div_w signs g.now at sr (mapped mem.now) op }
 {
     let from = source(g, mem, plus(at, 2), op, Size::Word);
-    let got = from.got;
-    let v = match got {
+    let v = match from.got {
         Ok(v) => v,
         Err(x) => return refused(x),
     };
-    let next = from.next;
-    let first = from.moved;
     if v == 0 {
-        return enter_after(first, sr, 5, next);
+        return enter_after(from.moved, sr, 5, from.next);
     }
     match word_divided(signs, data(g, op / 512 % 8), v) {
         Some(q) => {
             let codes = move_codes(Size::Word, q.quotient, sr);
             let both = q.remainder % 0x1_0000 * 0x1_0000 + q.quotient % 0x1_0000;
-            done(next, codes, first, write_data(op / 512 % 8, both))
+            done(from.next, codes, from.moved, write_data(op / 512 % 8, both))
         }
-        None => done(next, overflow_codes(sr), first, no_write()),
+        None => done(from.next, overflow_codes(sr), from.moved, no_write()),
     }
 }
 

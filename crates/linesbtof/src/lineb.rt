@@ -18,33 +18,27 @@ fn cmp(g: &[u32; 16], at: u32, sr: u16, mem: &[u8], op: u32) -> Change
 {
     let z = size_of(op / 64);
     let from = source(g, mem, plus(at, 2), op, z);
-    let got = from.got;
-    let v = match got {
+    let v = match from.got {
         Ok(v) => v,
         Err(x) => return refused(x),
     };
-    let next = from.next;
-    let first = from.moved;
     let r = subtracted(z, v, data(g, op / 512 % 8), false);
     let codes = compare_codes(sr, r);
-    done(next, codes, first, no_write())
+    done(from.next, codes, from.moved, no_write())
 }
 
 fn cmpa(z: Size, g: &[u32; 16], at: u32, sr: u16, mem: &[u8], op: u32) -> Change
     ensures { result ≡ cmpa_of z g.now at sr (mapped mem.now) op }
 {
     let from = source(g, mem, plus(at, 2), op, z);
-    let got = from.got;
-    let v = match got {
+    let v = match from.got {
         Ok(v) => v,
         Err(x) => return refused(x),
     };
-    let next = from.next;
-    let first = from.moved;
-    let old = address_after(g, first, op / 512 % 8);
+    let old = address_after(g, from.moved, op / 512 % 8);
     let r = subtracted(Size::Long, sign_extended(z, v), old, false);
     let codes = compare_codes(sr, r);
-    done(next, codes, first, no_write())
+    done(from.next, codes, from.moved, no_write())
 }
 
 pub(crate) fn logic_to_place(
@@ -59,8 +53,7 @@ pub(crate) fn logic_to_place(
 {
     let z = size_of(op / 64);
     let to = destination(g, mem, plus(at, 2), op, z);
-    let place = to.place;
-    let v = match fetch(g, mem, place, z) {
+    let v = match fetch(g, mem, to.place, z) {
         Ok(v) => v,
         Err(x) => return refused(x),
     };

@@ -27,20 +27,17 @@ pub(crate) fn logic_to_data(
 {
     let z = size_of(op / 64);
     let from = source(g, mem, plus(at, 2), op, z);
-    let got = from.got;
-    let v = match got {
+    let v = match from.got {
         Ok(v) => v,
         Err(x) => return refused(x),
     };
-    let next = from.next;
-    let first = from.moved;
     let old = data(g, op / 512 % 8);
     let r = logic(l, v, old);
     let codes = move_codes(z, r, sr);
     done(
-        next,
+        from.next,
         codes,
-        first,
+        from.moved,
         write_data(op / 512 % 8, merged(z, old, r)),
     )
 }
@@ -60,16 +57,13 @@ fn mul_w(signs: bool, g: &[u32; 16], at: u32, sr: u16, mem: &[u8], op: u32) -> C
     ensures { result ≡ mul_w signs g.now at sr (mapped mem.now) op }
 {
     let from = source(g, mem, plus(at, 2), op, Size::Word);
-    let got = from.got;
-    let v = match got {
+    let v = match from.got {
         Ok(v) => v,
         Err(x) => return refused(x),
     };
-    let next = from.next;
-    let first = from.moved;
     let r = product(signs, data(g, op / 512 % 8), v);
     let codes = move_codes(Size::Long, r, sr);
-    done(next, codes, first, write_data(op / 512 % 8, r))
+    done(from.next, codes, from.moved, write_data(op / 512 % 8, r))
 }
 
 // What a word of line C changes, taken for the instruction of a row.

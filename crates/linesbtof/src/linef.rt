@@ -40,13 +40,8 @@ fn wddata(g: &[u32; 16], at: u32, sr: u16, mem: &[u8], op: u32) -> Change
     ensures { result ≡ wddata_of g.now at sr (mapped mem.now) op }
 {
     let to = destination(g, mem, plus(at, 2), op, size_of(op / 64));
-    let place = to.place;
-    let next = to.next;
-    let first = to.moved;
-    let codes = kept_codes(sr);
-    let none = no_write();
-    match place {
-        Ok(_) => done(next, codes, first, none),
+    match to.place {
+        Ok(_) => done(to.next, kept_codes(sr), to.moved, no_write()),
         Err(x) => refused(x),
     }
 }

@@ -115,7 +115,7 @@ pub fn run(cpu: Cpu, mem: &mut [u8], budget: u32) -> Ran
     let reply = end.reply;
     let last = end.cpu;
     Ran {
-        reply: reply,
+        reply,
         count: end.count,
         cpu: last,
     }
@@ -135,7 +135,7 @@ pub fn step(cpu: Cpu, mem: &mut [u8]) -> Stepped
     let reply = end.reply;
     let last = end.cpu;
     Stepped {
-        reply: reply,
+        reply,
         vector: end.vector,
         cpu: last,
     }

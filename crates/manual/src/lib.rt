@@ -65,7 +65,8 @@ pub enum Place {
     I(u32),
 }
 
-// A register write: 0 to 7 are D0 to D7, 8 to 15 are A0 to A7, anything above is none.
+// A register write: 0 to 7 are D0 to D7, 8 to 15 are A0 to A7, anything above is none. A number and no Option, for
+// Registers.written has a meaning for each number.
 #[derive(Clone, Copy)]
 pub struct Write {
     pub to: u32,
@@ -145,7 +146,7 @@ pub enum ControlRegister {
     Vbr,
 }
 
-// The answers, 0 to 9 in the order of their numbers.
+// The answers, 0 to 9 in the order of their numbers. Done is one of them, as document 01 numbers it, and so no Option stands for it.
 #[derive(Clone, Copy)]
 pub enum Reply {
     Done,
@@ -198,7 +199,8 @@ pub struct Change {
     pub action: Action,
 }
 
-// What a step, an entry or a return answers: the reply, the vector that was entered, or 0, and the state.
+// What a step, an entry or a return answers: the reply, the vector that was entered, or 0, and the state. No Result, here and below:
+// a refusal hands back the state that was given (Reply.refusal).
 #[derive(Clone, Copy)]
 pub struct Stepped {
     pub reply: Reply,
@@ -214,14 +216,14 @@ pub struct Ran {
     pub cpu: Cpu,
 }
 
-// What a question of the state answers: the reply and the number.
+// What a question of the state answers: the reply and the number. No Result, for a refusal has a number too, 0 (Exceptions.told).
 #[derive(Clone, Copy)]
 pub struct Told {
     pub reply: Reply,
     pub value: u64,
 }
 
-// What a pop answers: the reply, the number, and the state.
+// What a pop answers: the reply, the number, and the state, which a refusal has too (Exceptions.not_popped).
 #[derive(Clone, Copy)]
 pub struct Popped {
     pub reply: Reply,
@@ -229,7 +231,7 @@ pub struct Popped {
     pub cpu: Cpu,
 }
 
-// What a call on a unit alone answers: the reply and the unit.
+// What a call on a unit alone answers: the reply and the unit, as it was where the call is refused (UnitCalls.answer).
 #[derive(Clone, Copy)]
 pub struct EmacAnswer {
     pub reply: Reply,

@@ -21,14 +21,14 @@ fn word_at(mem: &[u8], at: usize) -> u32
     requires { at + 2 ≤ length mem.now }
     ensures { (result ≡ value_at mem.now at 2) × (result < 0x1_0000) }
 {
-    byte_at(mem, at) * 0x100 + byte_at(mem, at + 1)
+    u16::from_be_bytes([mem[at], mem[at + 1]]) as u32
 }
 
 fn inside_long(mem: &[u8], at: usize) -> u32
     requires { at + 4 ≤ length mem.now }
     ensures { result ≡ value_at mem.now at 4 }
 {
-    word_at(mem, at) * 0x1_0000 + word_at(mem, at + 2)
+    u32::from_be_bytes([mem[at], mem[at + 1], mem[at + 2], mem[at + 3]])
 }
 
 fn byte_or_zero(mem: &[u8], at: usize, k: usize) -> u32

@@ -1,5 +1,6 @@
 // The registers of a mask, D0 lowest, as longs one after the other: MOVEM.
 #![tactic(auto, unfolding(manual::specs::Memory::access_many, manual::specs::Memory::loaded_many, manual::specs::Memory::stored_many))]
+
 ghost use Rattle.std.specs.Prelude.{◌≡◌, ◌+◌, ◌*◌, ◌/◌, ◌%◌, ◌^◌, ◌<◌, ◌≤◌};
 ghost use Rattle.manual.specs.declared.Size.TheVariants.{Long};
 ghost use Rattle.manual.specs.Word.{plus};

@@ -1,6 +1,6 @@
 // The quick path: the common instructions, each by its row, done in place. Any other word, and any operand or fault that the bodies do not
 // take on, is left to the plain engine, with nothing changed.
-#![tactic(auto)]
+#![tactic(auto, unfolding(instructions::specs::Line0::line0, instructions::specs::Line4::line4, instructions::specs::Line5::line5, instructions::specs::Line6::line6, instructions::specs::Line7::line7, instructions::specs::Line8::line8, instructions::specs::Line9D::sums, instructions::specs::LineA::line_a, instructions::specs::LineB::line_b, instructions::specs::LineC::line_c, instructions::specs::LineE::line_e, instructions::specs::Moves::moves, instructions::specs::Rows::place_in, instructions::specs::Rows::row_of, instructions::specs::Step::of_row))]
 
 ghost use Rattle.std.specs.Prelude.{◌≡◌, cond, ℕ, eqb};
 ghost use Rattle.manual.specs.Memory.{mapped};

@@ -36,7 +36,7 @@ module _ (g : List ℕ) (pc sr : ℕ) (e : Emac) (rest : Cpu) (m : Memory) (c : 
   clash : summed pc' sr g' e' ≡ undone sr g e → ⊥
   clash h =
       let q : true ≡ false = ap (λ (a : AfterMac). a.done) h in
-      let z : ◌≡◌ {A = ℕ} 0 1 = cc in omega arith
+      cc
 
   by_action : (a : Action) → summed pc' sr g' e' ≡ acted_on a changed (undone sr g e) e → next ≡ act state (applied state c) a m
   unfolding applied with_parts

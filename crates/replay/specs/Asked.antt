@@ -1,22 +1,36 @@
 -- The call that a record's head names: its kind, then the vector, the level, and from byte 6 a long, which is the budget of a run and else
 -- the program counter of the frame.
-use Rattle.std.specs.Prelude.{ℕ, ◌+◌, ◌*◌, min, Bool, cond, List, ◌++◌, eqb, get_or, length, take, drop, Some, None}
+use Rattle.std.specs.Prelude.{ℕ, ◌+◌, ◌*◌, min, cond, List, ◌++◌, eqb, get_or, length, take, drop, None, Some}
+use Rattle.replay.specs.declared.record.Call.{Call}
+use Rattle.replay.specs.declared.record.Call.TheVariants.{Step, Run, Exception, ExceptionAt, Interrupt, Rte}
 use Rattle.manual.specs.Memory.{Storage, value_at}
 use Rattle.manual.specs.Lent.{Lent, lent}
 use Rattle.instructions.specs.HostCalls.{Called, called, exception_on, interrupt_on, rte_on, step_on, run_on}
 
+-- the call of a number
+unfoldable pub call_of : ℕ → Call
+call_of kind =
+    cond (eqb kind 0) Step
+    (cond (eqb kind 1) Run
+    (cond (eqb kind 2) Exception
+    (cond (eqb kind 3) ExceptionAt
+    (cond (eqb kind 4) Interrupt Rte))))
+
+-- what it answers
+unfoldable pub answer_of : Call → List ℕ → Lent → ℕ → ℕ → ℕ → Called
+answer_of Step b l vector level number = step_on b l
+answer_of Run b l vector level number = run_on b l number
+answer_of Exception b l vector level number = exception_on b l vector number None
+answer_of ExceptionAt b l vector level number = exception_on b l vector number (Some level)
+answer_of Interrupt b l vector level number = interrupt_on b l vector level
+answer_of Rte b l vector level number = rte_on b l
+
 unfoldable pub asked : List ℕ → List ℕ → Storage → Called
 asked h b m =
-    let kind : ℕ = get_or h 0 0 in
     let vector : ℕ = get_or h 1 0 in
     let level : ℕ = get_or h 2 0 in
     let number : ℕ = value_at h 6 4 in
-    let l : Lent = lent m in
-    cond (eqb kind 0) (step_on b l)
-    (cond (eqb kind 1) (run_on b l number)
-    (cond (eqb kind 2) (exception_on b l vector number None)
-    (cond (eqb kind 3) (exception_on b l vector number (Some level))
-    (cond (eqb kind 4) (interrupt_on b l vector level) (rte_on b l)))))
+    answer_of (call_of (get_or h 0 0)) b (lent m) vector level number
 
 -- how many bytes of the block and of the memory the call gets
 abbrev pub block_bytes : List ℕ → List ℕ → ℕ

@@ -1,83 +1,47 @@
 // Runs of bytes that are put into an array.
-ghost use Rattle.std.specs.Prelude.{◌≡◌, ◌+◌, ◌≤◌, min, length, drop};
-ghost use Rattle.std.proofs.Math.Seq.{paste as paste_of};
-ghost use Rattle.replay.specs.Patches.{put as put_of, next_at, next_place, put_run, patched, patch as patched_of};
+ghost use Rattle.std.specs.Prelude.{◌≡◌, ◌+◌, ◌≤◌, min, length};
+ghost use Rattle.replay.specs.Patches.{put as put_of, next, next_place, put_run, patched, patch as patch_of};
 
-use super::number::byte_at;
+use crate::rest::Rest;
 
 // The place n bytes on, at most the end.
-fn onward(at: usize, n: usize, end: usize) -> usize
-    requires { at ≤ end }
+fn onward(at: usize, n: u8, end: usize) -> usize
     ensures { result ≡ min (at + n) end }
 {
-    if n <= end - at {
-        return at + n;
-    }
-    end
-}
-
-// n bytes of the file, from `at` on, at a place of `to`.
-fn paste(file: &[u8], at: usize, n: usize, to: &mut [u8], place: usize)
-    requires { (at + n ≤ length file.now) × (place + n ≤ length to.old) }
-    ensures { to.new ≡ paste_of to.old place (drop at file.now) n }
-{
-    let mut i: usize = 0;
-    while i < n {
-        to[place + i] = file[at + i];
-        i += 1;
-    }
+    at.saturating_add(usize::from(n)).min(end)
 }
 
 // What does not fit is put nowhere.
-fn put(file: &[u8], at: usize, n: usize, to: &mut [u8], place: usize)
-    requires { (at ≤ length file.now) × (place ≤ length to.old) }
-    ensures { to.new ≡ put_of file.now at n to.old place }
+fn put(bytes: &[u8], to: &mut [u8], place: usize)
+    requires { place ≤ length to.old }
+    ensures { to.new ≡ put_of bytes.now to.old place }
 {
-    let end = onward(at, n, file.len());
-    if to.len() - place < end - at {
-        return;
-    }
-    paste(file, at, end - at, to, place);
-}
-
-// Where the next run is in the file, and where in the array the last one ended.
-#[derive(Clone, Copy)]
-struct Spot {
-    at: usize,
-    place: usize,
-}
-
-// Puts one run: bytes to pass over, its length, its bytes.
-fn put_run(file: &[u8], from: Spot, to: &mut [u8]) -> Spot
-    requires { (from.at ≤ length file.now) × (from.place ≤ length to.old) }
-    ensures { (result.at ≡ next_at file.now from.at) × (result.place ≡ next_place file.now from.at from.place to.old) × (to.new ≡ put_run file.now from.at from.place to.old) }
-{
-    let room = to.len();
-    let place = onward(from.place, byte_at(file, from.at), room);
-    let second = onward(from.at, 1, file.len());
-    let len = byte_at(file, second);
-    let at = onward(second, 1, file.len());
-    put(file, at, len, to, place);
-    Spot {
-        at: onward(at, len, file.len()),
-        place: onward(place, len, room),
+    if bytes.len() <= to.len() - place {
+        to[place..place + bytes.len()].copy_from_slice(bytes);
     }
 }
 
-// Puts the runs that the file has at `from` into `to`, and returns the place after them.
-pub(crate) fn patch(file: &[u8], from: usize, to: &mut [u8]) -> usize
-    requires { from ≤ length file.now }
-    ensures { (patched result to.new ≡ patched_of file.now from to.old) × (result ≤ length file.now) }
+// Puts one run: bytes to pass over, its length, its bytes. The place after it is returned.
+fn put_run(file: &mut Rest, to: &mut [u8], from: usize) -> usize
+    ensures rest { file.new.0.now ≡ next file.old.0.now }
+    ensures place { result ≡ next_place file.old.0.now from to.old }
+    ensures bytes { to.new ≡ put_run file.old.0.now from to.old }
 {
-    let n = byte_at(file, from);
-    let mut spot = Spot {
-        at: onward(from, 1, file.len()),
-        place: 0,
-    };
-    let mut i: usize = 0;
-    while i < n {
-        spot = put_run(file, spot, to);
-        i += 1;
+    let end = to.len();
+    let place = onward(from, file.byte(), end);
+    let n = file.byte();
+    put(file.bytes(usize::from(n)), to, place);
+    onward(place, n, end)
+}
+
+// Puts the runs that come next in the file into `to`.
+pub(crate) fn patch(file: &mut Rest, to: &mut [u8])
+    ensures whole { patched file.new.0.now to.new ≡ patch_of file.old.0.now to.old }
+    ensures shorter { length file.new.0.now ≤ length file.old.0.now }
+{
+    let runs = file.byte();
+    let mut place = 0;
+    for _run in 0..runs {
+        place = put_run(file, to, place);
     }
-    spot.at
 }

@@ -1,7 +1,8 @@
 // The row that an opcode word takes: by its line, and then by the line's rows in the order of the definition's table, those with more
 // fixed bits first. The rows stand in the code as cases, for a constant table is built on the stack again at each look into it. A table
-// of rows by the word's top ten bits, which is lent, may stand before them.
-#![tactic(auto)]
+// of rows by the word's top ten bits, which is lent, may stand before them. A row is a number and no enum: a line's `instruction` takes
+// every u8, and a number that is no row goes where line 0's go (Step.of_row).
+#![tactic(auto, unfolding(crate::specs::Top::row_by, crate::specs::Top::top_of, crate::specs::Top::top_rows, instructions::specs::Rows::row_of))]
 
 mod table;
 

@@ -1,12 +1,12 @@
 -- Reading S-records: from a text and storage to a reply, a start address, and storage after it.
-use Rattle.std.specs.Prelude.{ℕ, ◌+◌, ◌-◌, ◌%◌}
+use Rattle.std.specs.Prelude.{ℕ, ◌+◌, ◌-◌, ◌%◌, Option, Some, None}
 use mathlib.Core.{Bool.Bool, Bool.true, Bool.false, Bool.cond, Bool.◌&&◌, List.List, List.[], List.◌∷◌}
 use lib.{Dec.eqb, Dec.leb, ListN.length, ListN.get_or, ListN.take, ListN.drop, Seq.sets}
 use Rattle.manual.specs.{Memory.Storage, Memory.value_at, Lent.longest}
 use Rattle.srecord.specs.declared.{Kind.Kind, TextReply.TextReply, ReadAnswer.ReadAnswer}
 use Rattle.srecord.specs.declared.Kind.TheVariants as kinds
 use Rattle.srecord.specs.declared.TextReply.TheVariants as replies
-use Rattle.srecord.specs.Records.{letter_s, lf, cr, kind_of, is_hex, unhexed, total}
+use Rattle.srecord.specs.Records.{letter_s, lf, cr, kind_of, bytes_of, is_hex, unhexed, total}
 
 -- ---- a line
 
@@ -33,11 +33,11 @@ checked form bs s =
     Malformed
 
 -- count, address and checksum are there; an end has nothing else
-unfoldable pub meaning : Kind → List ℕ → Said
-meaning (kinds.Data w) bs = checked (leb (w + 2) (length bs)) bs (Data (address w bs) (payload w bs))
-meaning (kinds.End w) bs = checked (eqb (length bs) (w + 2)) bs (End (address w bs))
-meaning (kinds.Skipped w) bs = checked (leb (w + 2) (length bs)) bs Skipped
-meaning kinds.Unknown bs = Malformed
+unfoldable pub meaning : Option Kind → List ℕ → Said
+meaning (Some (kinds.Data w)) bs = checked (leb (bytes_of w + 2) (length bs)) bs (Data (address (bytes_of w) bs) (payload (bytes_of w) bs))
+meaning (Some (kinds.End w)) bs = checked (eqb (length bs) (bytes_of w + 2)) bs (End (address (bytes_of w) bs))
+meaning (Some (kinds.Skipped w)) bs = checked (leb (bytes_of w + 2) (length bs)) bs Skipped
+meaning None bs = Malformed
 
 unfoldable pub said : List ℕ → Said
 said [] = Malformed

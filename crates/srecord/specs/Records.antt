@@ -1,9 +1,10 @@
 -- A record is S, a digit, and bytes of two hex digits each: a count of the bytes that follow it, an address of two, three or four
 -- bytes by the digit, data, and a checksum, the ones' complement of the low byte of the sum of all bytes before it.
-use Rattle.std.specs.Prelude.{ℕ, ◌+◌, ◌-◌, ◌*◌}
+use Rattle.std.specs.Prelude.{ℕ, ◌+◌, ◌-◌, ◌*◌, Option, Some, None}
 use mathlib.Core.{Bool.Bool, Bool.true, Bool.false, Bool.cond, Bool.◌&&◌, List.List, List.[], List.◌∷◌}
 use lib.{Dec.eqb, Dec.ltb, Dec.leb}
-use Rattle.srecord.specs.declared.{Kind.Kind, Kind.TheVariants.Data, Kind.TheVariants.End, Kind.TheVariants.Skipped, Kind.TheVariants.Unknown}
+use Rattle.srecord.specs.declared.{Kind.Kind, Kind.TheVariants.Data, Kind.TheVariants.End, Kind.TheVariants.Skipped}
+use Rattle.srecord.specs.declared.{Width.Width, Width.TheVariants.Two, Width.TheVariants.Three, Width.TheVariants.Four}
 
 abbrev pub letter_s : ℕ
 letter_s = 83
@@ -15,17 +16,23 @@ abbrev pub cr : ℕ
 cr = 13
 
 -- S1, S2 and S3 are data, S7, S8 and S9 the end. S0, a header, and S5, a count of records, are skipped. S4 and S6 are no records.
-unfoldable pub kind_of : ℕ → Kind
+unfoldable pub kind_of : ℕ → Option Kind
 kind_of d =
-    cond (eqb d 48) (Skipped 2)
-    (cond (eqb d 49) (Data 2)
-    (cond (eqb d 50) (Data 3)
-    (cond (eqb d 51) (Data 4)
-    (cond (eqb d 53) (Skipped 2)
-    (cond (eqb d 55) (End 4)
-    (cond (eqb d 56) (End 3)
-    (cond (eqb d 57) (End 2)
-    Unknown)))))))
+    cond (eqb d 48) (Some (Skipped Two))
+    (cond (eqb d 49) (Some (Data Two))
+    (cond (eqb d 50) (Some (Data Three))
+    (cond (eqb d 51) (Some (Data Four))
+    (cond (eqb d 53) (Some (Skipped Two))
+    (cond (eqb d 55) (Some (End Four))
+    (cond (eqb d 56) (Some (End Three))
+    (cond (eqb d 57) (Some (End Two))
+    None)))))))
+
+-- the bytes of an address
+abbrev pub bytes_of : Width → ℕ
+bytes_of Two = 2
+bytes_of Three = 3
+bytes_of Four = 4
 
 -- what a character is worth as a hex digit, in either case; 16 for any other
 unfoldable pub worth : ℕ → ℕ

@@ -1,2 +1,2 @@
+pub mod HexLaws
 pub mod LineLaws
-pub mod StoreLaws

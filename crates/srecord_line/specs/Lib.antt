@@ -1,3 +1,3 @@
+pub mod Pairs
 pub mod Lines
-pub mod Places
 pub mod RangeLaws

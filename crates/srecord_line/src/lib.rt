@@ -5,37 +5,19 @@ pub mod hex;
 pub mod line;
 pub mod replies;
 
-// What a line is to its reader: data by its address and the count of its bytes, the end by the start address, or what is wrong.
-#[derive(Clone, Copy)]
-pub enum Record {
-    Data(u32, usize),
+use hex::HexBytes;
+
+// What a line is to its reader: data by its address and its bytes, the end by the start address, or nothing that counts.
+#[derive(Drop)]
+pub enum Record<'a> {
+    Data(u32, HexBytes<'a>),
     End(u32),
     Skipped,
-    Malformed,
-    WrongSum,
 }
 
-// The same by places: an address, and the first and the count of the data bytes.
+// What is wrong with a line: its form, or the sum of what is well formed.
 #[derive(Clone, Copy)]
-enum Found {
-    Data(u32, usize, usize),
-    End(u32),
-    Skipped,
+pub enum LineError {
     Malformed,
     WrongSum,
-}
-
-// Whether a record's form and sum hold.
-#[derive(Clone, Copy)]
-enum Check {
-    Right,
-    Malformed,
-    WrongSum,
-}
-
-// Whether digits are hex, and then the low byte of their bytes' sum.
-#[derive(Clone, Copy)]
-struct Scan {
-    hex: bool,
-    sum: u32,
 }

@@ -1,222 +1,234 @@
--- A text line by line, from a place on. Assumes nothing.
-use Prim.Native.Nat.{ℕ, suc, ◌+◌, ◌-◌, ◌*◌, ◌≤◌, ◌<◌}
-use Prim.{tt}
-use mathlib.Core.Path.{◌≡◌, refl, sym, ap, ◌∙◌}
-use mathlib.Core.{Bool.Bool, Bool.true, Bool.false, Bool.◌&&◌, List.List, List.[], List.◌∷◌, List.◌++◌}
-use native.Mathlib.Omega.{arith}
-use borrow.Author.Tests.{le-leb, lt-leb, eq-eqb, ne_eqb}
-use lib.ListN.{length, get_or, take, drop, take-append-drop, drop_of_length-le, length-drop}
-use lib.Seq.{drop-cons, drop-drop, get_or-take, get_or-drop, take-suc}
+-- A text line by line. Assumes nothing.
+use Rattle.std.proofs.Common.{◌≡◌, ℕ, suc, ◌+◌, ◌-◌, ◌≤◌, ◌<◌, ◌==◌, Bool, true, false, cond, not, ◌&&◌, List, [], ◌∷◌, ◌++◌, length, get_or, take, drop, refl, sym, ap, ◌∙◌, arith, ne_eqb, le-leb, ltb, ltb-false, length-append, length-drop, length-take-le, take-append-drop, drop-cons, Option, Some, None, Result, Ok, Err}
+use Rattle.std.proofs.lemmas.Bool.{lt-leb}
+use Rattle.std.proofs.lemmas.Bool.Decides.{nat_tests}
+use Rattle.std.proofs.lemmas.List.{take_all, take_more}
+use Rattle.std.proofs.lemmas.List.Quantifiers.{position-Some}
+use Rattle.std.proofs.lemmas.List.Sums.{fails_before_first}
+use Rattle.std.specs.List.{position, position_or_len}
+use lib.Seq.{get_or-take}
 use Rattle.manual.specs.Lent.{longest}
+use Rattle.manual.specs.Memory.{Storage}
+use Rattle.srecord.specs.declared.TextReply.{TextReply}
 use Rattle.srecord.specs.declared.TextReply.TheVariants as replies
 use Rattle.srecord.specs.declared.ReadAnswer.{ReadAnswer}
 use Rattle.srecord.specs.Records.{lf, cr}
-use Rattle.srecord.specs.Reading.{Said, Data, End, Skipped, Malformed, WrongSum, said, bare, lines, ended, is_empty, all_empty, read_refused, on_line, verdict, stored, placed, text_done, reading, answer_to, read_text}
-use Rattle.srecord.specs.TextCalls.{text_number, text_called, read_call}
+use Rattle.srecord.specs.Reading.{Said, Data, End, Skipped, Malformed, WrongSum, said, bare, fits, lines, ended, is_empty, all_empty, read_refused, end_of, on_line, verdict, stored, placed, text_done, reading, answer_to, read_text}
 use Rattle.srecord_line.specs.declared.Record.{Record}
-use Rattle.srecord_line.specs.Lines.{record_of}
-use Rattle.srecord_line.specs.RangeLaws.{range_length, fits_length}
-use Rattle.srecord_read.specs.declared.Step.{Step}
-use Rattle.srecord_read.specs.declared.Step.TheVariants as steps
-use Rattle.srecord_read.specs.Texts.{LineTo, verdict_from, clear_from, on_record, goes_on, Ahead, Between, StoredTo}
+use Rattle.srecord_line.specs.declared.Record.TheVariants as records
+use Rattle.srecord_line.specs.declared.LineError.{LineError}
+use Rattle.srecord_line.specs.Lines.{record_of, reply_of, fits_by}
+use Rattle.srecord_line.specs.RangeLaws.{fits_length}
 use Rattle.srecord_read.specs.LineEndLaws.{NoLf, lines-line, ended-line, lines_none, ended-none, placed_cons}
+use Rattle.srecord_read.specs.Texts.{Splits, clear_from, judged, answer_of}
 
--- ---- a line by its places
+-- ---- the first line
 
-abbrev pub part : List ℕ → ℕ → ℕ → List ℕ
-part t i e = take (e - i) (drop i t)
+differs : (x : ℕ) → (x == lf) ≡ false → x ≡ lf → ⊥
+differs x e f = grind (arith, nat_tests)
 
-module _ (t : List ℕ) (i e : ℕ) (g : LineTo t i e) where
-  part_no_lf : NoLf (part t i e)
-  part_no_lf k p q =
-      let n : length (part t i e) ≡ e - i = range_length t i (e - i) (omega (arith, g.low, g.high)) in
-      let b : get_or (part t i e) k 0 ≡ get_or t (i + k) 0 = get_or-take (e - i) (drop i t) k 0 (omega arith) ∙ get_or-drop i t k 0 in
-      g.plain (i + k) (omega arith) (omega (arith, g.low)) (sym b ∙ q)
+past : (a b : ℕ) → None ≡ cond (ltb a b) (Some a) None → b ≤ a
+past a b = go (ltb a b) refl
+  where
+    go : (c : Bool) → ltb a b ≡ c → None ≡ cond c (Some a) None → b ≤ a
+    go true e n = absurd cc
+    go false e n = ltb-false a b e
 
-  part-split : e < length t → drop i t ≡ part t i e ++ (lf ∷ drop (e + 1) t)
-  part-split h =
-      let q : i + (e - i) ≡ e = omega (arith, g.low) in
-      let f : suc e ≡ e + 1 = omega arith in
-      sym (take-append-drop (e - i) (drop i t))
-      ∙ ap (λ (r : List ℕ). part t i e ++ r) (drop-drop (e - i) i t ∙ rw (q, drop-cons t e 0 h, g.stop h, f))
+pub no_line : (t : List ℕ) → None ≡ position (λ b. b == lf) t → NoLf t
+no_line t e k h = differs (get_or t k 0) (fails_before_first (λ b. b == lf) t k 0 (omega (arith, past (position_or_len (λ b. b == lf) t) (length t) e)))
 
-  lines-here : e < length t → lines (drop i t) ≡ part t i e ∷ lines (drop (e + 1) t)
-  lines-here h = ap lines (part-split h) ∙ lines-line (part t i e) (drop (e + 1) t) part_no_lf
+pub first_line : (t : List ℕ) (e : ℕ) → position (λ b. b == lf) t ≡ Some e → Splits t (take e t) (drop (e + 1) t)
+first_line t e q =
+    let p = position-Some (λ b. b == lf) t e 0 q in
+    let h : get_or t e 0 ≡ lf = grind (arith, nat_tests) in
+    let f : suc e ≡ e + 1 = omega arith in
+    record {
+      plain = λ k h f. let l : k < e = omega (arith, length-take-le e t (omega (arith, p.0))) in differs (get_or t k 0) (p.2 k l) (sym (get_or-take e t k 0 l) ∙ f);
+      parts = sym (take-append-drop e t) ∙ ap (λ (r : List ℕ). take e t ++ r) (drop-cons t e 0 p.0 ∙ rw (h, f));
+    }
 
-  ended_here : e < length t → ended (drop i t) ≡ ended (drop (e + 1) t)
-  ended_here h = rw (part-split h) (ended-line (part t i e) (drop (e + 1) t))
-
-  -- up to the end of the text
-  rest_no_lf : e ≡ length t → NoLf (drop i t)
-  rest_no_lf h k p q =
-      let n : length (drop i t) ≡ length t - i = length-drop i t in
-      g.plain (i + k) (omega arith) (omega arith) (sym (get_or-drop i t k 0) ∙ q)
-
-  lines-last : e ≡ length t → lines (drop i t) ≡ []
-  lines-last h = lines_none (drop i t) (rest_no_lf h)
-
-  ended-last : e ≡ length t → i < length t → ended (drop i t) ≡ false
-  ended-last h l = rw (drop-cons t i 0 l) (ended-none (get_or t i 0) (drop (suc i) t) (rw (drop-cons t i 0 l) at (rest_no_lf h)))
-
-  -- ---- the answer
-
-  verdict-here : (n : ℕ) (s : Said) → e < length t → s ≡ said (bare (part t i e))
-      → on_line n (verdict_from n (drop (e + 1) t)) (clear_from (drop (e + 1) t)) s ≡ verdict_from n (drop i t)
-  unfolding verdict_from clear_from verdict
-  verdict-here n s h p = rw (lines-here h, ended_here h, p)
-
-  pub verdict-last : (n : ℕ) → e ≡ length t → read_refused replies.Malformed ≡ verdict_from n (drop i t)
-  unfolding verdict_from verdict
-  verdict-last n h = rw (lines-last h)
-
-  clear-here : e < length t → clear_from (drop i t) ≡ is_empty (bare (part t i e)) && clear_from (drop (e + 1) t)
-  unfolding clear_from all_empty
-  clear-here h = rw (lines-here h, ended_here h) (go (is_empty (bare (part t i e))) (all_empty (lines (drop (e + 1) t))) (ended (drop (e + 1) t)))
-    where
-      go : (a b c : Bool) → (a && b) && c ≡ a && (b && c)
-      go true b c = refl
-      go false b c = refl
-
-  pub clear-last : e ≡ length t → i < length t → false ≡ clear_from (drop i t)
-  unfolding clear_from all_empty
-  clear-last h l = rw (lines-last h, ended-last h l)
-
-pub verdict-end : (n i : ℕ) (t : List ℕ) → length t ≤ i → read_refused replies.Malformed ≡ verdict_from n (drop i t)
-unfolding verdict_from verdict lines
-verdict-end n i t h = rw (drop_of_length-le t h)
-
-pub clear-end : (t : List ℕ) (i : ℕ) → length t ≤ i → true ≡ clear_from (drop i t)
-unfolding clear_from all_empty lines ended
-clear-end t i h = rw (drop_of_length-le t h)
+pub rest_of : (t : List ℕ) (i : ℕ) → take (length t - i) (drop i t) ≡ drop i t
+rest_of t i = take_all (length t - i) (drop i t) (rw length-drop (omega arith))
 
 -- ---- without a CR
 
-bare-cr : (xs : List ℕ) (b : ℕ) → b ≡ cr → bare (xs ++ (b ∷ [])) ≡ xs
+bare_cr : (xs : List ℕ) → bare (xs ++ (cr ∷ [])) ≡ xs
 unfolding bare
-bare-cr [] b h = rw (eq-eqb b cr h)
-bare-cr (x ∷ []) b h = rw (eq-eqb b cr h)
-bare-cr (x ∷ y ∷ xs) b h = ap (λ (r : List ℕ). x ∷ r) (bare-cr (y ∷ xs) b h)
+bare_cr [] = refl
+bare_cr (x ∷ []) = refl
+bare_cr (x ∷ y ∷ xs) = ap (λ (r : List ℕ). x ∷ r) (bare_cr (y ∷ xs))
 
-bare-other : (xs : List ℕ) (b : ℕ) → (b ≡ cr → ⊥) → bare (xs ++ (b ∷ [])) ≡ xs ++ (b ∷ [])
+bare_other : (xs : List ℕ) (b : ℕ) → (b ≡ cr → ⊥) → bare (xs ++ (b ∷ [])) ≡ xs ++ (b ∷ [])
 unfolding bare
-bare-other [] b h = rw (ne_eqb b cr h)
-bare-other (x ∷ []) b h = rw (ne_eqb b cr h)
-bare-other (x ∷ y ∷ xs) b h = ap (λ (r : List ℕ). x ∷ r) (bare-other (y ∷ xs) b h)
+bare_other [] b h = rw (ne_eqb b cr h)
+bare_other (x ∷ []) b h = rw (ne_eqb b cr h)
+bare_other (x ∷ y ∷ xs) b h = ap (λ (r : List ℕ). x ∷ r) (bare_other (y ∷ xs) b h)
 
-module _ (t : List ℕ) (i e : ℕ) (l : i ≤ e) (h : e ≤ length t) where
-  pub part_none : i ≡ e → part t i e ≡ bare (part t i e)
-  unfolding bare
-  part_none p = let z : e - i ≡ 0 = omega arith in rw z
+pub bare_none : (l : List ℕ) → length l < 1 → l ≡ bare l
+unfolding bare
+bare_none [] h = refl
+bare_none (x ∷ l) h = absurd (omega arith)
 
-  part-more : (i ≡ e → ⊥) → part t i e ≡ part t i (e - 1) ++ (get_or t (e - 1) 0 ∷ [])
-  part-more p =
-      let z : e - i ≡ suc (e - 1 - i) = omega (arith, p) in
-      let b : i + (e - 1 - i) ≡ e - 1 = omega (arith, p) in
-      rw z (take-suc (drop i t) (e - 1 - i) 0 (rw length-drop (omega (arith, p))) ∙ rw (get_or-drop i t (e - 1 - i) 0, b))
+module _ (l : List ℕ) (h : 1 ≤ length l) where
+  last_apart : l ≡ take (length l - 1) l ++ (get_or l (length l - 1) 0 ∷ [])
+  last_apart =
+      let e : length l - 1 + 1 ≡ length l = omega arith in
+      sym (take_all (length l) l (omega arith)) ∙ (rw e at (take_more l (length l - 1) 0 (omega arith)))
 
-  pub part-cr : (i ≡ e → ⊥) → get_or t (e - 1) 0 ≡ cr → part t i (e - 1) ≡ bare (part t i e)
-  part-cr p q = sym (rw (part-more p) (bare-cr (part t i (e - 1)) (get_or t (e - 1) 0) q))
+  pub bare_front : get_or l (length l - 1) 0 ≡ cr → take (length l - 1) l ≡ bare l
+  bare_front e = sym (ap bare last_apart ∙ rw e (bare_cr (take (length l - 1) l)))
 
-  pub part-other : (i ≡ e → ⊥) → (get_or t (e - 1) 0 ≡ cr → ⊥) → part t i e ≡ bare (part t i e)
-  part-other p q = rw (part-more p) (sym (bare-other (part t i (e - 1)) (get_or t (e - 1) 0) q))
+  pub bare_whole : (get_or l (length l - 1) 0 ≡ cr → ⊥) → l ≡ bare l
+  bare_whole n = sym (ap bare last_apart ∙ bare_other (take (length l - 1) l) (get_or l (length l - 1) 0) n ∙ sym last_apart)
 
--- ---- what a line is to its reader, and what it says
+-- ---- a line, and the text behind it
 
-record_said : (n : ℕ) (after : ReadAnswer) (clear : Bool) (s : Said) → on_record n after clear (record_of s) ≡ on_line n after clear s
-unfolding on_record on_line
-record_said n after clear (Data a bs) = rw (fits_length n a bs)
-record_said n after clear (End a) = refl
-record_said n after clear Skipped = refl
-record_said n after clear Malformed = refl
-record_said n after clear WrongSum = refl
+abbrev pub verdict_of : ℕ → List ℕ → ReadAnswer
+verdict_of n t = verdict n (lines t) (ended t)
 
--- ---- a step
+empty_length : (l : List ℕ) → (length l == 0) ≡ is_empty l
+empty_length [] = refl
+empty_length (x ∷ l) = ne_eqb (length (x ∷ l)) 0 (λ e. omega arith)
 
-module _ (t : List ℕ) (n : ℕ) (r : Step) (w : ReadAnswer) where
-  pub next-from : (j : ℕ) → r ≡ steps.Next j → goes_on t n r ≡ w → verdict_from n (drop j t) ≡ w
-  unfolding goes_on
-  next-from j e g = rw e at g
+module _ (t l r : List ℕ) (g : Splits t l r) where
+  lines_here : lines t ≡ l ∷ lines r
+  lines_here = ap lines g.parts ∙ lines-line l r g.plain
 
-  pub stop-from : (a : ReadAnswer) → r ≡ steps.Stop a → goes_on t n r ≡ w → a ≡ w
-  unfolding goes_on
-  stop-from a e g = rw e at g
+  ended_here : ended t ≡ ended r
+  ended_here = ap ended g.parts ∙ ended-line l r
 
-pub next-between : (i n j : ℕ) (r : Step) → r ≡ steps.Next j → Between i n r → (i < j) × (j ≤ n)
-next-between i n j r e g = rw e at g
+  pub shorter : length r < length t
+  shorter = omega (arith, ap length g.parts, length-append l (lf ∷ r))
 
--- ---- storing
+  pub verdict_here : (n : ℕ) → on_line n (verdict_of n r) (clear_from r) (said (bare l)) ≡ verdict_of n t
+  unfolding verdict clear_from
+  verdict_here n = rw (lines_here, ended_here)
 
-pub placed_end : (t m : List ℕ) (i : ℕ) → length t ≤ i → placed (lines (drop i t)) m ≡ m
-unfolding placed lines
-placed_end t m i h = rw (drop_of_length-le t h)
+  clear_here : clear_from t ≡ (length (bare l) == 0) && clear_from r
+  unfolding clear_from all_empty
+  clear_here = rw (lines_here, ended_here, ← empty_length (bare l)) (grind (arith, nat_tests))
 
--- ---- a line up to its LF, which ends at b without a CR
+  pub not_clear : false ≡ (length (bare l) == 0) → false ≡ clear_from t
+  not_clear e = rw (clear_here, ← e)
 
-abbrev Bare : List ℕ → ℕ → ℕ → ℕ → Type 0
-Bare t i e b = (i ≤ b) × (b ≤ e) × (part t i b ≡ bare (part t i e))
+  pub still_clear : true ≡ (length (bare l) == 0) → clear_from r ≡ clear_from t
+  still_clear e = rw (clear_here, ← e)
 
-module _ (t : List ℕ) (i e b : ℕ) (g : LineTo t i e) (o : e ≡ length t → ⊥) (p : Bare t i e b) where
-  here : e < length t
-  here = omega (arith, g.high, o)
+  pub placed_here : (m : Storage) → placed (lines r) (stored (said (bare l)) m) ≡ placed (lines t) m
+  placed_here m = sym (ap (λ ls. placed ls m) lines_here ∙ placed_cons l (lines r) m)
 
-  pub clear_empty : b ≡ i → clear_from (drop (e + 1) t) ≡ clear_from (drop i t)
-  clear_empty q =
-      let z : b - i ≡ 0 = omega arith in
-      sym (clear-here t i e g here ∙ rw (← p.2, z))
+module _ (t : List ℕ) (g : NoLf t) where
+  pub verdict_end : (n : ℕ) → read_refused replies.Malformed ≡ verdict_of n t
+  unfolding verdict
+  verdict_end n = rw (lines_none t g)
 
-  pub clear_full : (b ≡ i → ⊥) → false ≡ clear_from (drop i t)
-  clear_full q =
-      let z : length (part t i b) ≡ b - i = range_length t i (b - i) (omega (arith, p.0, p.1, g.high)) in
-      sym (clear-here t i e g here ∙ rw (← p.2, not_empty (part t i b) (omega (arith, q))))
-    where
-      not_empty : (x : List ℕ) → 0 < length x → is_empty x ≡ false
-      not_empty [] k = absurd (omega arith)
-      not_empty (y ∷ x) k = refl
+  pub placed_end : (m : Storage) → m ≡ placed (lines t) m
+  unfolding placed
+  placed_end m = rw (lines_none t g)
 
-  pub line_judged : (n : ℕ) (l : Record) (r : ReadAnswer) → l ≡ record_of (said (part t i b))
-      → r ≡ on_record n (verdict_from n (drop (e + 1) t)) (clear_from (drop (e + 1) t)) l → r ≡ verdict_from n (drop i t)
-  line_judged n l r q w =
-      w ∙ rw q (record_said n _ _ (said (part t i b)) ∙ verdict-here t i e g n (said (part t i b)) here (ap said p.2))
+pub clear_end : (t : List ℕ) → NoLf t → (length t == 0) ≡ clear_from t
+unfolding clear_from all_empty lines ended
+clear_end [] g = refl
+clear_end (x ∷ t) g = rw (lines_none (x ∷ t) g, ended-none x t g, ne_eqb (length (x ∷ t)) 0 (λ e. omega arith))
 
-  pub line-ahead : (s : Step) → Ahead (e + 1) s → Between i (length t) s
-  line-ahead (steps.Next j) q = (omega (arith, g.low), omega (arith, here))
-  line-ahead (steps.Stop r) q = tt
+-- ---- what a line brings, by its record
 
-  pub line-stored : (m m' : List ℕ) → m' ≡ stored (said (part t i b)) m → StoredTo t i m (e + 1) m'
-  line-stored m m' q =
-      record {
-        on = omega (arith, g.low);
-        high = omega (arith, here);
-        same = rw (q, p.2, lines-here t i e g here) (sym (placed_cons (part t i e) (lines (drop (e + 1) t)) m));
-      }
+abbrev pub record_judged : ℕ → Result Record LineError → Result (Option ℕ) TextReply
+record_judged n (Ok (records.Data a bs)) = cond (fits_by n a (length bs)) (Ok None) (Err replies.NotInside)
+record_judged n (Ok (records.End a)) = Ok (Some a)
+record_judged n (Ok records.Skipped) = Ok None
+record_judged n (Err e) = Err (reply_of e)
 
-pub last_stored : (t : List ℕ) (i e : ℕ) (m : List ℕ) → LineTo t i e → i < length t → e ≡ length t → StoredTo t i m e m
-unfolding placed
-last_stored t i e m g l h =
-    record {
-      on = omega arith;
-      high = g.high;
-      same = placed_end t m e (omega arith) ∙ rw (lines-last t i e g h);
-    }
+pub by_record : (n : ℕ) (r : Result Record LineError) (s : Said) → r ≡ record_of s → record_judged n r ≡ judged n s
+unfolding judged
+by_record n r s e = ap (record_judged n) e ∙ go s
+  where
+    go : (s : Said) → record_judged n (record_of s) ≡ judged n s
+    go (Data a bs) = rw fits_length
+    go (End a) = refl
+    go Skipped = refl
+    go Malformed = refl
+    go WrongSum = refl
 
--- ---- the calls
+module _ (n a : ℕ) (bs : List ℕ) (s : Said) (e : Ok (records.Data a bs) ≡ record_of s) where
+  pub by_inside : fits_by n a (length bs) ≡ true → Ok None ≡ judged n s
+  by_inside f = rw f at (by_record n (Ok (records.Data a bs)) s e)
+
+  pub by_outside : fits_by n a (length bs) ≡ false → Err replies.NotInside ≡ judged n s
+  by_outside f = rw f at (by_record n (Ok (records.Data a bs)) s e)
+
+-- ---- and for the text
+
+abbrev pub answers : Result (Option ℕ) TextReply → ReadAnswer → Bool → ReadAnswer
+answers (Ok None) after clear = after
+answers (Ok (Some a)) after clear = end_of clear a
+answers (Err r) after clear = read_refused r
+
+by_judged : (n : ℕ) (after : ReadAnswer) (clear : Bool) (s : Said) → on_line n after clear s ≡ answers (judged n s) after clear
+unfolding on_line judged
+by_judged n after clear (Data a bs) = go (fits n a bs)
+  where
+    go : (b : Bool) → cond b after (read_refused replies.NotInside) ≡ answers (cond b (Ok None) (Err replies.NotInside)) after clear
+    go true = refl
+    go false = refl
+by_judged n after clear (End a) = refl
+by_judged n after clear Skipped = refl
+by_judged n after clear Malformed = refl
+by_judged n after clear WrongSum = refl
+
+-- what refuses a text is not that it is done
+is_refusal : Result (Option ℕ) TextReply → Bool
+is_refusal (Ok o) = true
+is_refusal (Err r) = not (text_done r)
+
+refuses : (n : ℕ) (s : Said) → is_refusal (judged n s) ≡ true
+unfolding judged is_refusal
+refuses n (Data a bs) = go (fits n a bs)
+  where
+    go : (b : Bool) → is_refusal (cond b (Ok None) (Err replies.NotInside)) ≡ true
+    go true = refl
+    go false = refl
+refuses n (End a) = refl
+refuses n Skipped = refl
+refuses n Malformed = refl
+refuses n WrongSum = refl
+
+-- n bytes are not too many, and what is left, t, has the answer of the whole, w
+module _ (n : ℕ) (t w : List ℕ) (small : n ≤ longest) (i : verdict_of n t ≡ verdict_of n w) where
+  not_long : verdict_of n t ≡ answer_to w n
+  unfolding answer_to
+  not_long = i ∙ rw (le-leb n longest small)
+
+  pub ends_bad : NoLf t → read_refused replies.Malformed ≡ answer_to w n
+  ends_bad g = verdict_end t g n ∙ not_long
+
+  module _ (l r : List ℕ) (g : Splits t l r) (q : Result (Option ℕ) TextReply) (e : q ≡ judged n (said (bare l))) where
+    step : (x : Result (Option ℕ) TextReply) → q ≡ x → answers x (verdict_of n r) (clear_from r) ≡ verdict_of n t
+    step x f = sym (by_judged n (verdict_of n r) (clear_from r) (said (bare l)) ∙ ap (λ y. answers y (verdict_of n r) (clear_from r)) (sym e ∙ f)) ∙ verdict_here t l r g n
+
+    pub goes : q ≡ Ok None → verdict_of n r ≡ verdict_of n w
+    goes f = step (Ok None) f ∙ i
+
+    pub ends : (a : ℕ) → q ≡ Ok (Some a) → end_of (clear_from r) a ≡ answer_to w n
+    ends a f = step (Ok (Some a)) f ∙ not_long
+
+    pub stops : (x : TextReply) → q ≡ Err x → (read_refused x ≡ answer_to w n) × (text_done x ≡ false)
+    unfolding is_refusal
+    stops x f =
+        let d : not (text_done x) ≡ true = sym (ap is_refusal (sym e ∙ f)) ∙ refuses n (said (bare l)) in
+        (step (Err x) f ∙ not_long, grind (arith, nat_tests))
+
+-- ---- a call
+
+pub too_long : (t : List ℕ) (n : ℕ) → longest < n → read_refused replies.TooLong ≡ answer_to t n
+unfolding answer_to
+too_long t n h = rw (lt-leb n longest h)
 
 module _ (t m : List ℕ) where
-  pub read-long : (r : ReadAnswer) → longest < length m → r ≡ read_refused replies.TooLong → reading r m ≡ read_text t m
-  unfolding read_text answer_to
-  read-long r h e = rw (lt-leb (length m) longest h, e)
+  pub read_done : (a : ℕ) → answer_of (Ok a) ≡ answer_to t (length m) → reading (answer_of (Ok a)) (placed (lines t) m) ≡ read_text t m
+  unfolding read_text
+  read_done a e = rw (← e)
 
-  -- d is whether it is accepted
-  module _ (r : ReadAnswer) (d : Bool) (h : length m ≤ longest) (v : r ≡ verdict_from (length m) t) (e : d ≡ text_done r.reply) where
-    pub read-stored : (m' : List ℕ) → d ≡ true → m' ≡ placed (lines t) m → reading r m' ≡ read_text t m
-    unfolding read_text answer_to verdict_from
-    read-stored m' y q = rw (le-leb (length m) longest h, ← v, ← e, y, q)
-
-    pub read-refused : d ≡ false → reading r m ≡ read_text t m
-    unfolding read_text answer_to verdict_from
-    read-refused n = rw (le-leb (length m) longest h, ← v, ← e, n)
-
-  pub read-called : (r : ReadAnswer) (m' : List ℕ) → reading r m' ≡ read_text t m
-      → text_called (text_number r.reply + 256 * r.start) m' ≡ read_call t m
-  unfolding read_call
-  read-called r m' e = rw (← e)
+  pub read_not : (r : TextReply) → text_done r ≡ false → answer_of (Err r) ≡ answer_to t (length m) → reading (answer_of (Err r)) m ≡ read_text t m
+  unfolding read_text
+  read_not r f e = rw (← e, f)

@@ -1,51 +1,33 @@
--- A text from a place on, as the code goes through it.
-use Rattle.std.specs.Prelude.{ℕ, ◌≤◌, ◌<◌, ◌≡◌, length, get_or, drop}
-use Prim.{Unit}
-use mathlib.Core.{Bool.Bool, Bool.cond, Bool.◌&&◌, List.List}
+-- A text line by line, as the code goes through it.
+use Rattle.std.specs.Prelude.{ℕ, ◌≡◌, Bool, cond, false, ◌&&◌, List, ◌∷◌, ◌++◌, Option, Some, None, Result, Ok, Err, IfErr}
 use Rattle.srecord.specs.declared.ReadAnswer.{ReadAnswer}
+use Rattle.srecord.specs.declared.TextReply.{TextReply}
 use Rattle.srecord.specs.declared.TextReply.TheVariants as replies
-use Rattle.srecord.specs.Reading.{lines, ended, all_empty, read_refused, end_of, verdict, placed}
-use Rattle.srecord_line.specs.declared.Record.{Record}
-use Rattle.srecord_line.specs.declared.Record.TheVariants as records
-use Rattle.srecord_line.specs.Lines.{fits_by}
-use Rattle.srecord_read.specs.declared.Step.{Step}
-use Rattle.srecord_read.specs.declared.Step.TheVariants as steps
+use Rattle.srecord.specs.Records.{lf}
+use Rattle.srecord.specs.Reading.{Said, Data, End, Skipped, Malformed, WrongSum, fits, lines, ended, all_empty, read_refused, text_done}
+use Rattle.srecord_read.specs.LineEndLaws.{NoLf}
 
--- no LF from i up to e, where one stands, or the end
-pub record LineTo (t : List ℕ) (i e : ℕ) : Type 0 where
-  pub low : i ≤ e
-  pub high : e ≤ length t
-  pub plain : (k : ℕ) → i ≤ k → k < e → get_or t k 0 ≡ 10 → ⊥
-  pub stop : e < length t → get_or t e 0 ≡ 10
-
-unfoldable pub verdict_from : ℕ → List ℕ → ReadAnswer
-verdict_from n t = verdict n (lines t) (ended t)
+-- l is the first line of t, and r is behind its LF
+pub record Splits (t l r : List ℕ) : Type 0 where
+  pub plain : NoLf l
+  pub parts : t ≡ l ++ (lf ∷ r)
 
 unfoldable pub clear_from : List ℕ → Bool
 clear_from t = all_empty (lines t) && ended t
 
-unfoldable pub on_record : ℕ → ReadAnswer → Bool → Record → ReadAnswer
-on_record size after clear (records.Data a n) = cond (fits_by size a n) after (read_refused replies.NotInside)
-on_record size after clear (records.End a) = end_of clear a
-on_record size after clear records.Skipped = after
-on_record size after clear records.Malformed = read_refused replies.Malformed
-on_record size after clear records.WrongSum = read_refused replies.WrongSum
+-- what a line brings in n bytes of memory: the start address where it is an end, none where the text goes on
+unfoldable pub judged : ℕ → Said → Result (Option ℕ) TextReply
+judged n (Data a bs) = cond (fits n a bs) (Ok None) (Err replies.NotInside)
+judged n (End a) = Ok (Some a)
+judged n Skipped = Ok None
+judged n Malformed = Err replies.Malformed
+judged n WrongSum = Err replies.WrongSum
 
-unfoldable pub goes_on : List ℕ → ℕ → Step → ReadAnswer
-goes_on t size (steps.Next j) = verdict_from size (drop j t)
-goes_on t size (steps.Stop r) = r
+-- a start address, or why there is none, as an answer
+abbrev pub answer_of : Result ℕ TextReply → ReadAnswer
+answer_of (Ok a) = record { reply = replies.Done; start = a }
+answer_of (Err r) = read_refused r
 
--- where a step goes on
-abbrev pub Ahead : ℕ → Step → Type 0
-Ahead next (steps.Next j) = j ≡ next
-Ahead next (steps.Stop r) = Unit {0}
-
-abbrev pub Between : ℕ → ℕ → Step → Type 0
-Between i n (steps.Next j) = (i < j) × (j ≤ n)
-Between i n (steps.Stop r) = Unit {0}
-
--- a text stored from i up to r: what is left to store gives the same
-pub record StoredTo (t : List ℕ) (i : ℕ) (m : List ℕ) (r : ℕ) (m' : List ℕ) : Type 0 where
-  pub on : i < r
-  pub high : r ≤ length t
-  pub same : placed (lines (drop r t)) m' ≡ placed (lines (drop i t)) m
+-- what refuses a text is not that it is done
+abbrev pub IsRefusal : Result ℕ TextReply → Type 0
+IsRefusal r = IfErr r (λ reply. text_done reply ≡ false)

@@ -3,12 +3,3 @@
 
 pub mod read;
 mod text;
-
-use srecord::ReadAnswer;
-
-// Where to go on in a text, or the answer.
-#[derive(Clone, Copy)]
-enum Step {
-    Next(usize),
-    Stop(ReadAnswer),
-}

@@ -1,52 +1,45 @@
-// The lines of a text, by their places in it.
-ghost use Rattle.std.specs.Prelude.{◌≡◌, ◌-◌, ◌≤◌, length, take, drop};
+// The lines of a text, one after the other.
+ghost use Rattle.std.specs.Prelude.{◌≡◌, ◌==◌, MatchOption, position};
+ghost use Rattle.srecord.specs.Records.{lf};
 ghost use Rattle.srecord.specs.Reading.{bare};
-ghost use Rattle.srecord_read.specs.Texts.{LineTo, clear_from};
+ghost use Rattle.srecord_read.specs.LineEndLaws.{NoLf};
+ghost use Rattle.srecord_read.specs.Texts.{Splits, clear_from};
 
-// Where the line from i on ends: its LF, or the text's end.
-pub(crate) fn line_end(text: &[u8], i: usize) -> usize
-    requires { i ≤ length text.now }
-    ensures { LineTo text.now i result }
+fn line_end(text: &[u8]) -> Option<usize>
+    ensures { result ≡ position (λ b. b == lf) text.now }
 {
-    let mut e = i;
-    while e < text.len() {
-        if text[e] == b'\n' {
-            return e;
-        }
-        e += 1;
-    }
-    e
+    text.iter().position(|b| *b == b'\n')
 }
 
-// The same without a CR before it.
-pub(crate) fn bare_end(text: &[u8], i: usize, e: usize) -> usize
-    requires { (i ≤ e) × (e ≤ length text.now) }
-    ensures { (i ≤ result) × (result ≤ e) × (take (result - i) (drop i text.now) ≡ bare (take (e - i) (drop i text.now))) }
+// The first line, without its LF, and the text behind it; none where no LF stands in a text. Loops go on with that text and are no
+// `for`, since an end asks for what is behind it.
+pub(crate) fn next_line(text: &[u8]) -> Option<(&[u8], &[u8])>
+    ensures { MatchOption result (NoLf text.now) (λ p. Splits text.now p.0.now p.1.now) }
 {
-    if i == e {
-        return e;
-    }
-    if text[e - 1] == b'\r' {
-        return e - 1;
-    }
-    e
+    let end = line_end(text)?;
+    Some((&text[..end], &text[end + 1..]))
 }
 
-// Whether nothing but empty lines stands from a place on.
-pub(crate) fn clear(text: &[u8], given: usize) -> bool
-    requires { given ≤ length text.now }
-    ensures { result ≡ clear_from (drop given text.now) }
+// A line without a CR at its end.
+pub(crate) fn bare(line: &[u8]) -> &[u8]
+    ensures { result.now ≡ bare line.now }
 {
-    let mut i = given;
-    while i < text.len() {
-        let e = line_end(text, i);
-        if e == text.len() {
-            return false;
-        }
-        if bare_end(text, i, e) != i {
-            return false;
-        }
-        i = e + 1;
+    match line {
+        [front @ .., b'\r'] => front,
+        _ => line,
     }
-    true
+}
+
+// Whether nothing but empty lines stands in a text, each with its LF.
+pub(crate) fn clear(text: &[u8]) -> bool
+    ensures { result ≡ clear_from text.now }
+{
+    let mut rest = text;
+    while let Some((line, after)) = next_line(rest) {
+        if !bare(line).is_empty() {
+            return false;
+        }
+        rest = after;
+    }
+    rest.is_empty()
 }

@@ -14,6 +14,7 @@ pub fn read_full<R: Read>(input: &mut R, buf: &mut [u8]) -> io::Result<usize>
     ensures bytes { IfOk result (λ n. Consumes (R.remaining input.old) (R.remaining input.new) (take n buf.new)) }
     ensures end { IfOk result (λ n. n < length buf.new → IsAtEnd (R.remaining input.new)) }
 {
+    // No method of `Read` does this: `read_exact` leaves open how much it read of a shorter input, and `read_to_end` takes the heap.
     let mut done = 0;
     while done < buf.len() {
         let n = input.read(&mut buf[done..])?;

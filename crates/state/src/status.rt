@@ -24,10 +24,7 @@ pub fn status(v: u32) -> u16
 pub fn emac_admitted(e: Emac) -> bool
     ensures { result ≡ emac_admitted e }
 {
-    let acc = e.acc;
-    let limit: u64 = 0x1_0000_0000_0000;
-    (e.macsr < 0x1000)
-        & ((acc[0] < limit) & ((acc[1] < limit) & ((acc[2] < limit) & (acc[3] < limit))))
+    e.macsr < 0x1000 && e.acc.iter().all(|a| *a < 0x1_0000_0000_0000)
 }
 
 // Whether a state is admitted.

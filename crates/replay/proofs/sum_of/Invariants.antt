@@ -1,12 +1,7 @@
--- `replay::sum_of` meets its contract: the sum is that of the bytes passed. Assumes nothing.
-use Prim.Native.Nat.{◌≤◌, ◌<◌, ◌-◌}
-use mathlib.Core.Path.{◌≡◌}
-use lib.ListN.{length}
+-- The sum is that of the bytes passed.
+use Rattle.std.proofs.Common.{◌≡◌, ◌<◌}
 use Rattle.replay.specs.Sums.{summed}
 use Rattle.replay.proofs.sum_of.Given as goal
 
-abbrev pub invariant-loop-i : goal.invariant-loop-i
-invariant-loop-i l = (l.i ≤ length l.file) × (l.sum ≡ summed l.i l.file) × (l.sum < 4294967296)
-
-abbrev pub decreases-loop-i : goal.decreases-loop-i
-decreases-loop-i l = length l.file - l.i
+abbrev pub invariant-loop-byte : goal.invariant-loop-byte
+invariant-loop-byte l = (l.sum ≡ summed l.byte-index l.file) × (l.sum < 4294967296)

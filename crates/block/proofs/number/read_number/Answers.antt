@@ -1,5 +1,5 @@
 -- `block::number::read_number` meets its contract. Assumes nothing.
-use Rattle.std.proofs.Common.{◌≡◌, ◌≤◌, ◌<◌, ◌^◌, ℕ, List, get_or, arith, rules, add-one}
+use Rattle.std.proofs.Common.{◌+◌, ◌≤◌, ◌<◌, ◌^◌, ℕ, List, get_or, arith}
 use Rattle.std.proofs.Math.Nat.{pow-le-pow_right}
 use Rattle.manual.specs.Memory.{value_at}
 use Rattle.memory.specs.MemoryLaws.{value_lt}
@@ -11,21 +11,11 @@ room bytes at k h are =
     let p : 256 ^ k ≤ 256 ^ 7 = pow-le-pow_right (omega arith) {i = k} {j = 7} h in
     omega (arith, value_lt bytes at k are)
 
-pub loop-k-init : goal.loop-k-init
-unfolding value_at
-loop-k-init c = search rules
-
 pub overflow_mul-v : goal.overflow_mul-v
 overflow_mul-v c =
     let l = room c.args.bytes.now c.args.at c.loop-k.k (omega arith) (λ j. omega (arith, c.type_inv.bytes j)) in omega arith
 
-pub overflow_add-v : goal.overflow_add-v
-overflow_add-v c =
-    let l = room c.args.bytes.now c.args.at c.loop-k.k (omega arith) (λ j. omega (arith, c.type_inv.bytes j)) in omega arith
-
-pub loop-k-preserved : goal.loop-k-preserved
-unfolding value_at
-loop-k-preserved c = (search rules, rw add-one (cc))
-
-pub returns : goal.returns
-returns c = let e : c.loop-k.k ≡ c.args.n = omega arith in cc
+pub overflow_add-v-in-loop-k : goal.overflow_add-v-in-loop-k
+overflow_add-v-in-loop-k c =
+    let l = room c.args.bytes.now c.args.at c.loop-k.k (omega arith) (λ j. omega (arith, c.type_inv.bytes j)) in
+    omega (arith, c.type_inv.bytes (c.args.at + c.loop-k.k))

@@ -5,5 +5,5 @@ use Rattle.block.proofs.number.word_at.Goals as goal
 
 pub overflow_cast-result : goal.overflow_cast-result
 overflow_cast-result c =
-    let small = value_lt c.args.bytes.now c.args.at 2 (λ j. omega (arith, c.shared_slice_known-1.given j)) in
+    let small = value_lt c.args.bytes.now c.args.at 2 (λ j. omega (arith, c.type_inv.bytes j)) in
     record { fits = omega (arith, c.read_number.ensures, small) }

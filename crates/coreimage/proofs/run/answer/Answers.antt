@@ -1,12 +1,9 @@
 -- `coreimage::run::answer` meets its contract. Assumes nothing.
-use mathlib.Core.Path.{sym, ◌∙◌}
 use Rattle.coreimage.proofs.AnswerLaws.{refused-is, ran-is}
 use Rattle.coreimage.proofs.run.answer.Goals as goal
 
-pub returns-then-not-is_done : goal.returns-then-not-is_done
-returns-then-not-is_done c =
-    refused-is _ _ _ _ _ _ _ c.read_image-loaded.ensures (sym c.is_done.ensures ∙ c.if-not-is_done.true) c.answer_text.ensures
+pub returns-in-Ok : goal.returns-in-Ok
+returns-in-Ok c = ran-is _ _ _ _ _ c.in-Ok.loaded c.run-ran.result c.in-Ok.ensures c.run-ran.ensures c.run_text.ensures
 
-pub returns : goal.returns
-returns c =
-    ran-is _ _ _ _ _ _ _ c.run-ran.result _ c.read_image-loaded.ensures (sym c.is_done.ensures ∙ c.if-not-is_done.false) c.run-ran.ensures c.run_text.ensures
+pub returns-in-Err : goal.returns-in-Err
+returns-in-Err c = refused-is _ _ _ _ c.in-Err.reply c.in-Err.ensures c.answer_text.ensures

@@ -1,19 +1,22 @@
 -- `coresrecord::run::answer` meets its contract. Assumes nothing.
-use mathlib.Core.Path.{sym, ap, ◌∙◌}
-use Rattle.manual.specs.Admitted.{admitted}
-use Rattle.coresrecord.proofs.RunLaws.{input_short, input_long, input_refused, input_taken}
+use Rattle.std.proofs.Common.{arith}
+use Rattle.coresrecord.proofs.RunLaws.{input-short, input-long, input-refused, input-taken}
 use Rattle.coresrecord.proofs.run.answer.Goals as goal
 
-pub returns-then-input-lt-TEXT_AT : goal.returns-then-input-lt-TEXT_AT
-returns-then-input-lt-TEXT_AT c = input_short _ _ _ c.if-input-lt-TEXT_AT.true c.answer_text.ensures
+pub returns-in_default : goal.returns-in_default
+returns-in_default c = input-short _ _ _ c.in_default.ensures.cases c.answer_text.ensures
 
-pub returns-then-input : goal.returns-then-input
-returns-then-input c = input_long _ _ c.if-input-lt-TEXT_AT.false _ c.if-input.true c.answer_text-then-input.ensures
+pub returns-then-text-gt-TEXT_MOST : goal.returns-then-text-gt-TEXT_MOST
+returns-then-text-gt-TEXT_MOST c =
+    let p = c.in-Some.ensures.cases in
+    input-long _ _ (omega (arith, p.2)) _ (omega (arith, p.2)) c.answer_text-then-text-gt-TEXT_MOST.ensures
 
-pub returns-then-admitted : goal.returns-then-admitted
-returns-then-admitted c =
-    input_taken _ _ c.if-input-lt-TEXT_AT.false c.if-input.false _ (sym (ap admitted c.text_state.ensures) ∙ sym c.admitted.ensures ∙ c.if-admitted.true) c.read_and_run.ensures
+pub returns-then-not-admitted : goal.returns-then-not-admitted
+returns-then-not-admitted c =
+    let p = c.in-Some.ensures.cases in
+    input-refused _ _ (omega (arith, p.2)) (omega (arith, p.2)) _ (rw (← p.0, ← c.text_state.ensures, ← c.admitted.ensures) c.if-not-admitted.true) c.answer_text-then-not-admitted.ensures
 
 pub returns : goal.returns
 returns c =
-    input_refused _ _ c.if-input-lt-TEXT_AT.false c.if-input.false _ (sym (ap admitted c.text_state.ensures) ∙ sym c.admitted.ensures ∙ c.if-admitted.false) c.answer_text-2.ensures
+    let p = c.in-Some.ensures.cases in
+    input-taken _ _ (omega (arith, p.2)) (omega (arith, p.2)) _ (rw (← p.0, ← c.text_state.ensures, ← c.admitted.ensures) c.if-not-admitted.false) (rw (← p.0, ← p.1) c.read_and_run.ensures)

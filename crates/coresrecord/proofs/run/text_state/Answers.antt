@@ -1,4 +1,5 @@
 -- `coresrecord::run::text_state` meets its contract. Assumes nothing.
+use Rattle.memory.specs.MemoryLaws.{value_two}
 use Rattle.srecord.specs.TextRun.{text_state}
 use Rattle.coresrecord.proofs.run.text_state.Goals as goal
 
@@ -6,10 +7,11 @@ pub returns : goal.returns
 unfolding text_state
 returns c =
     rw (
-      ← c.long_at-a7.ensures,
-      ← c.status_at-sr.ensures,
-      ← c.fresh.ensures,
-      ← c.with_address.ensures,
-      ← c.with_pc.ensures,
-      ← c.with_sr.ensures,
+      c.with_sr.ensures,
+      c.with_pc.ensures,
+      c.with_address-cpu.ensures,
+      c.fresh.ensures,
+      c.long_at.ensures,
+      c.from_be_bytes-sr.ensures,
+      value_two,
     )

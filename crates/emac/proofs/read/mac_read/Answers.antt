@@ -1,28 +1,22 @@
-use Rattle.emac.proofs.ReadLaws.{word, long, integer, too_large, as_it_is}
+use Rattle.std.proofs.Common.{◌∙◌}
 use Rattle.emac.specs.MacLaws.{taken}
+use Rattle.emac.proofs.ReadLaws.{word, long, integer, whole_long}
 use Rattle.emac.proofs.read.mac_read.Goals as goal
 
-pub returns-then-mode-2 : goal.returns-then-mode-2
-returns-then-mode-2 c =
+pub returns-in-true-true : goal.returns-in-true-true
+returns-in-true-true c =
     let v = c.value_of-r in let x = c.args in
-    word x.mode x.a v.result _ (taken x.mode x.a _ v.ensures).value c.if-mode.true c.if-mode-2.true _ c.near24.ensures c.clamp15.ensures
+    word x.mode x.a v.result _ (taken x.mode x.a _ v.ensures).value c.in-true-true.is-0 c.in-true-true.is-1 _ c.rounded.ensures c.clamped.ensures
 
-pub returns-then-mode : goal.returns-then-mode
-returns-then-mode c =
+pub returns-in-true-false : goal.returns-in-true-false
+returns-in-true-false c =
     let v = c.value_of-r in let x = c.args in
-    long x.mode x.a v.result _ (taken x.mode x.a _ v.ensures).value c.if-mode.true c.if-mode-2.false _ c.near8.ensures c.clamp31.ensures
+    long x.mode x.a v.result _ (taken x.mode x.a _ v.ensures).value c.in-true-false.is-0 c.in-true-false.is-1 _ c.rounded-in-true-false.ensures c.clamped-in-true-false.ensures
 
-pub returns-then-mode-p : goal.returns-then-mode-p
-returns-then-mode-p c =
-    let x = c.args in
-    too_large x.mode x.a c.if-mode.false c.if-mode-3.true c.if-mode-p.true
+pub returns-in-false-true : goal.returns-in-false-true
+returns-in-false-true c = let x = c.args in c.unsigned_read.ensures ∙ whole_long x.mode x.a c.in-false-true.is-0 c.in-false-true.is-1
 
-pub returns-then-mode-3 : goal.returns-then-mode-3
-returns-then-mode-3 c =
-    let x = c.args in
-    as_it_is x.mode x.a c.if-mode.false c.if-mode-3.true c.if-mode-p.false
-
-pub returns : goal.returns
-returns c =
+pub returns-in-false-false : goal.returns-in-false-false
+returns-in-false-false c =
     let v = c.value_of-r in let x = c.args in
-    integer x.mode x.a v.result _ (taken x.mode x.a _ v.ensures).value c.if-mode.false c.if-mode-3.false c.clamp31-2.ensures
+    integer x.mode x.a v.result _ (taken x.mode x.a _ v.ensures).value c.in-false-false.is-0 c.in-false-false.is-1 c.clamped-in-false-false.ensures

@@ -13,9 +13,9 @@ pub loop-n-preserved : goal.loop-n-preserved
 loop-n-preserved c = (
   search rules,
   elim c.if-mask-eq1.branch [
-    then-mask-eq1+in_ok-access w ↦
-      rw w.at-is (access-on _ c.loop-n-test.true _ _ _ _ _ _ _ w.if-mask-eq1.true w.access.ensures w.in_ok-access.was w.plus-at.ensures c.loop-n.invariant.1)
-  | else-mask-eq1 w ↦ rw w.at-is (access-past _ c.loop-n-test.true _ _ _ _ w.if-mask-eq1.false c.loop-n.invariant.1)
+    | then-mask-eq1+in_ok-access w ↦
+        rw w.at-is (access-on _ c.loop-n-test.true _ _ _ _ _ _ _ w.if-mask-eq1.true w.access.ensures w.in_ok-access.was w.plus-at.ensures c.loop-n.invariant.1)
+    | else-mask-eq1 w ↦ rw w.at-is (access-past _ c.loop-n-test.true _ _ _ _ w.if-mask-eq1.false c.loop-n.invariant.1)
   ],
 )
 

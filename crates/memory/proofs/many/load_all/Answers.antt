@@ -8,9 +8,9 @@ pub loop-n-preserved : goal.loop-n-preserved
 loop-n-preserved c = (
   search rules,
   elim c.if-mask-eq1.branch [
-    then-mask-eq1 w ↦
-      rw (w.at-is, w.g-is) (loaded_on _ c.loop-n-test.true _ _ _ _ _ _ _ w.if-mask-eq1.true w.plus-at.ensures (rw (w.unwrap_or.ensures, or_zero w.load.result, w.load.ensures)) c.loop-n.invariant.1)
-  | else-mask-eq1 w ↦ rw (w.at-is, w.g-is) (sym (loaded-past _ c.loop-n-test.true _ _ _ _ w.if-mask-eq1.false) ∙ c.loop-n.invariant.1)
+    | then-mask-eq1 w ↦
+        rw (w.at-is, w.g-is) (loaded_on _ c.loop-n-test.true _ _ _ _ _ _ _ w.if-mask-eq1.true w.plus-at.ensures (rw (w.unwrap_or.ensures, or_zero w.load.result, w.load.ensures)) c.loop-n.invariant.1)
+    | else-mask-eq1 w ↦ rw (w.at-is, w.g-is) (sym (loaded-past _ c.loop-n-test.true _ _ _ _ w.if-mask-eq1.false) ∙ c.loop-n.invariant.1)
   ],
 )
 

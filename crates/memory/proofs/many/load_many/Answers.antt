@@ -1,5 +1,5 @@
 -- `memory::many::load_many` meets its contract. Assumes nothing.
-use Rattle.std.proofs.Common.{◌≡◌, Err, ◌∙◌, sym, refl, rules}
+use Rattle.std.proofs.Common.{◌≡◌, Err, refl, rules}
 use Rattle.memory.proofs.many.load_many.Goals as goal
 
 pub returns-in_err-access_many : goal.returns-in_err-access_many

@@ -9,18 +9,18 @@ pub loop-n-preserved : goal.loop-n-preserved
 loop-n-preserved c =
     let v = c.loop-n.invariant in
     elim c.if-mask-eq1.branch [
-      then-mask-eq1 w ↦
-        rw (w.at-is, w.mem-is) (
-          search rules,
-          rw w.store.ensures.1 (length_stored _ _ _ _ ∙ v.1),
-          stored_on _ c.loop-n-test.true _ _ _ _ _ _ _ w.if-mask-eq1.true w.plus-at.ensures w.store.ensures.1 v.2,
-        )
-    | else-mask-eq1 w ↦
-        rw (w.at-is, w.mem-is) (
-          search rules,
-          search rules,
-          sym (stored_past _ c.loop-n-test.true _ _ _ _ w.if-mask-eq1.false) ∙ v.2,
-        )
+      | then-mask-eq1 w ↦
+          rw (w.at-is, w.mem-is) (
+            search rules,
+            rw w.store.ensures.1 (length_stored _ _ _ _ ∙ v.1),
+            stored_on _ c.loop-n-test.true _ _ _ _ _ _ _ w.if-mask-eq1.true w.plus-at.ensures w.store.ensures.1 v.2,
+          )
+      | else-mask-eq1 w ↦
+          rw (w.at-is, w.mem-is) (
+            search rules,
+            search rules,
+            sym (stored_past _ c.loop-n-test.true _ _ _ _ w.if-mask-eq1.false) ∙ v.2,
+          )
     ]
 
 pub returns : goal.returns

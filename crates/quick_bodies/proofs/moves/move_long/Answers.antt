@@ -14,5 +14,5 @@ returns-then-op-eq0 c =
 pub returns : goal.returns
 unfolding move_of destination_of
 returns c =
-    let h = at _ _ _ _ _ c.in-Some.is (c.spot.ensures _ (sym c.address_after-a.ensures)) in
+    let h = at _ _ _ _ _ c.in-At.is (c.spot.ensures _ (sym c.address_after-a.ensures)) in
     rw (← c.plus.ensures, read_of _ _ _ _ _ c.in-Read.is c.read_long.ensures, ← c.long_move_codes-codes.ensures, put_second _ _ _ _ _ _ _ _ _ _ h _, ← c.store-c.ensures) c.stored.ensures

@@ -13,5 +13,5 @@ returns-then-op-eq0 c = λ at h.
 pub returns : goal.returns
 unfolding move_of destination_of
 returns c = λ at h.
-    let k = spot_at _ _ _ _ _ c.in-Some.is (c.spot.ensures _ (sym c.address_after-a.ensures)) in
+    let k = spot_at _ _ _ _ _ c.in-At.is (c.spot.ensures _ (sym c.address_after-a.ensures)) in
     rw (h, ← c.move_codes-codes.ensures, put_second _ _ _ _ _ _ _ _ _ _ k _, ← c.store-c.ensures) c.stored.ensures

@@ -1,13 +1,15 @@
 -- `replay::patch::put` meets its contract. Assumes nothing.
+use Rattle.std.proofs.Common.{refl, arith}
+use Rattle.std.proofs.lemmas.Slice.{put_mid-paste}
 use borrow.Author.Tests.{lt-ltb, le-ltb}
 use Rattle.replay.specs.Patches.{put as put_of}
 use Rattle.replay.proofs.patch.put.Goals as goal
 
-pub returns-then-to-place : goal.returns-then-to-place
+pub returns-then-bytes-to : goal.returns-then-bytes-to
 unfolding put_of
-returns-then-to-place c = rw (← c.onward-end.ensures, lt-ltb _ _ c.if-to-place.true)
+returns-then-bytes-to c =
+    rw (le-ltb _ _ c.if-bytes-to.true) (put_mid-paste c.args.place _ c.args.to.now _ c.args.bytes.now _ c.copy_from_slice.ensures.after (omega arith) refl)
 
-pub returns : goal.returns
+pub returns-else-bytes-to : goal.returns-else-bytes-to
 unfolding put_of
-returns c =
-    rw (← c.onward-end.ensures, le-ltb _ _ c.if-to-place.false) c.paste.ensures
+returns-else-bytes-to c = rw (lt-ltb _ _ c.if-bytes-to.false)

@@ -5,7 +5,7 @@ use Rattle.replay.proofs.record.answers.Goals as goal
 pub returns : goal.returns
 unfolding answered
 returns c = (
-  rw (← c.wide.ensures.0, ← c.least-b.ensures, ← c.wide-2.ensures.0, ← c.wide-3.ensures.0, ← c.least-m.ensures, ← c.call.ensures, ← c.expected.ensures),
-  rw (← c.wide.ensures.0, ← c.least-b.ensures, ← c.wide-2.ensures.0, ← c.wide-3.ensures.0, ← c.least-m.ensures, ← c.call.ensures),
-  rw (← c.wide.ensures.0, ← c.least-b.ensures, ← c.wide-2.ensures.0, ← c.wide-3.ensures.0, ← c.least-m.ensures, ← c.call.ensures),
+  rw (← c.from.ensures, ← c.min-b.ensures, ← c.from_be_bytes.ensures, ← c.from-2.ensures, ← c.min-m.ensures, ← c.made.ensures, ← c.expected.ensures),
+  rw (← c.from.ensures, ← c.min-b.ensures, ← c.from_be_bytes.ensures, ← c.from-2.ensures, ← c.min-m.ensures, ← c.made.ensures),
+  rw (← c.from.ensures, ← c.min-b.ensures, ← c.from_be_bytes.ensures, ← c.from-2.ensures, ← c.min-m.ensures, ← c.made.ensures),
 )

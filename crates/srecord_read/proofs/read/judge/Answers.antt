@@ -1,29 +1,28 @@
 -- `srecord_read::read::judge` meets its contract. Assumes nothing.
-use Prim.{tt}
-use mathlib.Core.Path.{refl}
-use Rattle.srecord_read.specs.Texts.{on_record, goes_on}
+use Rattle.std.proofs.Common.{sym, Ok, Err}
+use Rattle.std.proofs.lemmas.Result.{err_from_is_err_and}
+use Rattle.srecord.specs.Reading.{said as said_of}
+use Rattle.srecord_line.specs.declared.Record.TheVariants as records
+use Rattle.srecord_read.proofs.ReadLaws.{by_record, by_inside, by_outside}
 use Rattle.srecord_read.proofs.read.judge.Goals as goal
 
+pub returns-in_err-a : goal.returns-in_err-a
+returns-in_err-a c =
+    let p = err_from_is_err_and c.from_residual.result c.from_residual.ensures.1 in
+    rw (p.1, p.2) (by_record c.args.size (Err c.in_err-a.field-0.0) (said_of c.args.line.now) c.in_err-a.ensures)
+
 pub returns-then-inside : goal.returns-then-inside
-unfolding goes_on on_record
-returns-then-inside c = (rw (c.in-Data.is, ← c.inside.ensures, c.if-inside.true), refl)
+returns-then-inside c =
+    let d = c.in-Data in
+    by_inside c.args.size d.a d.bytes (said_of c.args.line.now) (rw d.is at c.in_ok-a.ensures) (rw c.len.ensures at (sym c.if-inside.ensures))
 
 pub returns-else-inside : goal.returns-else-inside
-unfolding goes_on on_record
-returns-else-inside c = (rw (c.in-Data.is, ← c.inside.ensures, c.if-inside.false) c.refused.ensures, tt)
+returns-else-inside c =
+    let d = c.in-Data in
+    by_outside c.args.size d.a d.bytes (said_of c.args.line.now) (rw d.is at c.in_ok-a.ensures) (rw c.len.ensures at (sym c.if-inside.ensures))
 
 pub returns-in-End : goal.returns-in-End
-unfolding goes_on on_record
-returns-in-End c = (rw c.in-End.is c.at_end.ensures, tt)
+returns-in-End c = by_record c.args.size (Ok (records.End c.in-End.start)) (said_of c.args.line.now) (rw c.in-End.is at c.in_ok-a.ensures)
 
 pub returns-in-Skipped : goal.returns-in-Skipped
-unfolding goes_on on_record
-returns-in-Skipped c = (rw c.in-Skipped.is, refl)
-
-pub returns-in-Malformed : goal.returns-in-Malformed
-unfolding goes_on on_record
-returns-in-Malformed c = (rw c.in-Malformed.is c.refused-in-Malformed.ensures, tt)
-
-pub returns-in-WrongSum : goal.returns-in-WrongSum
-unfolding goes_on on_record
-returns-in-WrongSum c = (rw c.in-WrongSum.is c.refused-in-WrongSum.ensures, tt)
+returns-in-Skipped c = by_record c.args.size (Ok records.Skipped) (said_of c.args.line.now) (rw c.in-Skipped.is at c.in_ok-a.ensures)

@@ -1,18 +1,9 @@
 -- `srecord_read::read::read` meets its contract. Assumes nothing.
-use Rattle.srecord_read.proofs.ReadLaws.{read-long, read-stored, read-refused}
+use Rattle.srecord_read.proofs.ReadLaws.{read_done, read_not}
 use Rattle.srecord_read.proofs.read.read.Goals as goal
 
-pub returns-then-mem-gt16777216 : goal.returns-then-mem-gt16777216
-returns-then-mem-gt16777216 c =
-    let a = c.args in
-    read-long a.text.now a.mem.now c.refused.result c.if-mem-gt16777216.true c.refused.ensures
+pub returns-in-Ok : goal.returns-in-Ok
+returns-in-Ok c = rw c.store_text.ensures (read_done c.args.text.now c.args.mem.now c.in-Ok.start c.in-Ok.ensures.0)
 
-pub returns-then-text_done : goal.returns-then-text_done
-returns-then-text_done c =
-    let a = c.args in
-    read-stored a.text.now a.mem.now c.verdict-r.result c.text_done.result c.if-mem-gt16777216.false c.verdict-r.ensures c.text_done.ensures _ c.if-text_done.true c.store_text.ensures
-
-pub returns : goal.returns
-returns c =
-    let a = c.args in
-    read-refused a.text.now a.mem.now c.verdict-r.result c.text_done.result c.if-mem-gt16777216.false c.verdict-r.ensures c.text_done.ensures c.if-text_done.false
+pub returns-in-Err : goal.returns-in-Err
+returns-in-Err c = read_not c.args.text.now c.args.mem.now c.in-Err.reply c.in-Err.ensures.1 c.in-Err.ensures.0

@@ -1,9 +1,0 @@
-use Rattle.instructions.specs.LineC.{logic_to_data as logic_to_data_of}
-use Rattle.manual.specs.Word.{size_of as size_of_of}
-use Rattle.quick_parts.specs.Near.{read as read_of}
-use Rattle.quick_bodies.proofs.logic.logic_to_data.Goals as goal
-
-pub returns : goal.returns
-unfolding logic_to_data_of size_of_of
-returns c =
-    rw (c.if-op-ne2.false, ← c.plus.ensures, read_of _ _ _ _ _ c.in-Read.is c.read_long.ensures, ← c.data-old.ensures, ← c.logic-r.ensures, ← c.long_move_codes-codes.ensures, ← c.merged-whole.ensures, ← c.write_data.ensures, ← c.done.ensures) (c.changed.ensures _)
