@@ -1,6 +1,7 @@
 // MOVE with the operands that the other bodies leave, d8(An,Xi) and absolute addresses, done in place. Compiled programs have some of these
 // in every loop, and the plain engine is slow there: it hands their change through memory (docs/PERFORMANCE.md).
 #![tactic(auto, unfolding(instructions::specs::Moves::moves, instructions::specs::Rows::place_in, instructions::specs::Rows::row_of, instructions::specs::Step::of_row, lines0to3::specs::MoveLaws::move_to, lines0to3::specs::MoveLaws::move_to_data))]
+
 ghost use Rattle.std.specs.Prelude.{◌≡◌, ℕ, ◌+◌, ◌*◌, ◌/◌, ◌%◌};
 ghost use Rattle.manual.specs.Memory.{mapped};
 ghost use Rattle.manual.specs.declared.Emac.{Emac};

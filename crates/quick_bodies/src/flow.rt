@@ -1,5 +1,6 @@
 // Bcc with a byte's or a word's displacement, JSR, PEA and MOVEM, done in place.
 #![tactic(auto, unfolding(instructions::specs::Line4::jsr, instructions::specs::Line4::many, instructions::specs::Line4::movem, instructions::specs::Line4::pea, instructions::specs::Line6::bcc, instructions::specs::Line6::displacement, instructions::specs::Line6::displacement_bytes, manual::specs::Address::control, manual::specs::Address::extension, manual::specs::Address::locate, manual::specs::Address::operand, manual::specs::Change::acting, manual::specs::Registers::no_write, manual::specs::Registers::written, quick_parts::specs::Effects::in_place))]
+
 ghost use Rattle.std.specs.Prelude.{◌≡◌, true, false, ◌+◌, ◌*◌, ◌/◌, ◌%◌};
 ghost use Rattle.manual.specs.Memory.{mapped};
 ghost use Rattle.instructions.specs.Line4.{jsr as jsr_of, pea as pea_of, movem};

@@ -1,5 +1,6 @@
 // AND, OR, EOR and products of longs and bits of Dn, done in place.
 #![tactic(auto, unfolding(instructions::specs::Line0::bit_by_immediate, instructions::specs::Line0::bit_by_register, instructions::specs::Line0::bit_operation, instructions::specs::Line4::mul_l, instructions::specs::LineB::logic_to_place, instructions::specs::LineC::logic_to_data, manual::specs::Address::destination_of, manual::specs::Address::extension, manual::specs::Address::fetch, manual::specs::Address::locate, manual::specs::Address::moved, manual::specs::Address::operand, manual::specs::Change::done, manual::specs::Change::put, manual::specs::Change::put_to, manual::specs::Word::size_of))]
+
 ghost use Rattle.std.specs.Prelude.{◌≡◌, ℕ, ◌+◌, ◌*◌, ◌/◌, ◌%◌};
 ghost use Rattle.manual.specs.Memory.{Memory, mapped, storage_of};
 ghost use Rattle.manual.specs.declared.Logic.TheVariants.{Eor};

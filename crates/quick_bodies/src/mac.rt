@@ -1,10 +1,7 @@
 // MAC and MSAC, done in place.
-<<<<<<< HEAD
-ghost use Rattle.std.specs.Prelude.{◌≡◌, Some, ℕ, ◌+◌, ◌*◌, ◌/◌, ◌%◌};
-=======
 #![tactic(auto, unfolding(crate::specs::Units::in_unit, instructions::specs::LineA::load_moves, instructions::specs::LineA::mac, instructions::specs::LineA::mac_registers, instructions::specs::LineA::mac_with_load, manual::specs::Change::acting, manual::specs::Registers::no_write, manual::specs::Registers::written))]
-ghost use Rattle.std.specs.Prelude.{◌≡◌, ℕ, ◌+◌, ◌*◌, ◌/◌, ◌%◌};
->>>>>>> f3073228cad386bcb00870d3345b8813340cd57b
+
+ghost use Rattle.std.specs.Prelude.{◌≡◌, Some, ℕ, ◌+◌, ◌*◌, ◌/◌, ◌%◌};
 ghost use Rattle.manual.specs.Memory.{mapped};
 ghost use Rattle.manual.specs.declared.Emac.{Emac};
 ghost use Rattle.manual.specs.Emac.{emac_of};

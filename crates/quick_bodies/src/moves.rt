@@ -1,12 +1,8 @@
 // MOVE, MOVEA, LEA and CLR, done in place.
-<<<<<<< HEAD
+#![tactic(auto, unfolding(instructions::specs::Line4::clr, instructions::specs::Line4::lea, instructions::specs::Moves::movea, lines0to3::specs::MoveLaws::move_to_data, manual::specs::Address::destination_of, manual::specs::Address::extension, manual::specs::Address::locate, manual::specs::Address::moved, manual::specs::Address::operand, manual::specs::Change::done, manual::specs::Change::put, manual::specs::Change::put_to))]
+
 ghost use Rattle.std.specs.Prelude.{◌≡◌, ℕ, ◌+◌, ◌*◌, ◌/◌, ◌%◌};
 ghost use Rattle.manual.specs.Memory.{Memory, mapped, storage_of};
-=======
-#![tactic(auto, unfolding(instructions::specs::Line4::clr, instructions::specs::Line4::lea, instructions::specs::Moves::movea, lines0to3::specs::MoveLaws::move_to_data, manual::specs::Address::destination_of, manual::specs::Address::extension, manual::specs::Address::locate, manual::specs::Address::moved, manual::specs::Address::operand, manual::specs::Change::done, manual::specs::Change::put, manual::specs::Change::put_to))]
-ghost use Rattle.std.specs.Prelude.{◌≡◌, ◌+◌, ◌*◌, ◌/◌, ◌%◌};
-ghost use Rattle.manual.specs.Memory.{mapped};
->>>>>>> f3073228cad386bcb00870d3345b8813340cd57b
 ghost use Rattle.manual.specs.declared.Size.TheVariants.{Long};
 ghost use Rattle.manual.specs.Word.{plus as plus_of};
 ghost use Rattle.manual.specs.Address.{source};

@@ -1,6 +1,7 @@
 // MOVE and MOVEA of bytes and words, MVZ, MVS, TST and MULU.W, MULS.W, done in place. Their source is read at one place in the code, whatever
 // its size, so that a compiler puts it there. An arm is given what it read.
 #![tactic(auto, unfolding(crate::specs::Parts::part_of, instructions::specs::Line4::line4, instructions::specs::Line4::tst, instructions::specs::Line7::line7, instructions::specs::Line7::mvs, instructions::specs::Line7::mvz, instructions::specs::LineC::line_c, instructions::specs::LineC::mul_w, instructions::specs::Moves::movea, instructions::specs::Moves::moves, instructions::specs::Rows::place_in, instructions::specs::Rows::row_of, instructions::specs::Step::of_row, lines0to3::specs::MoveLaws::move_to_data, manual::specs::Address::destination_of, manual::specs::Address::source, manual::specs::Word::plus))]
+
 ghost use Rattle.std.specs.Prelude.{◌≡◌, ℕ, ◌+◌, ◌*◌, ◌/◌, ◌%◌};
 ghost use Rattle.manual.specs.Memory.{Memory, mapped, storage_of};
 ghost use Rattle.manual.specs.declared.Size.TheVariants.{Word};

@@ -1,10 +1,7 @@
 // ADD, SUB, CMP and their kin of longs, done in place.
-<<<<<<< HEAD
-ghost use Rattle.std.specs.Prelude.{◌≡◌, ℕ, ◌+◌, ◌*◌, ◌/◌, ◌%◌};
-=======
 #![tactic(auto, unfolding(instructions::specs::Line0::cmpi, instructions::specs::Line5::addq, instructions::specs::Line9D::add_to_data, instructions::specs::Line9D::add_to_place, instructions::specs::Line9D::adda, instructions::specs::Line9D::more_or_less, instructions::specs::LineB::cmp, instructions::specs::LineB::cmpa, manual::specs::Address::destination_of, manual::specs::Address::extension, manual::specs::Address::fetch, manual::specs::Address::immediate, manual::specs::Address::locate, manual::specs::Address::moved, manual::specs::Address::operand, manual::specs::Address::value, manual::specs::Change::done, manual::specs::Change::put, manual::specs::Change::put_to, manual::specs::Flags::sum_or_difference, manual::specs::Word::size_of))]
-ghost use Rattle.std.specs.Prelude.{◌≡◌, true, false, ℕ, ◌+◌, ◌*◌, ◌/◌, ◌%◌};
->>>>>>> f3073228cad386bcb00870d3345b8813340cd57b
+
+ghost use Rattle.std.specs.Prelude.{◌≡◌, ℕ, ◌+◌, ◌*◌, ◌/◌, ◌%◌};
 ghost use Rattle.manual.specs.Memory.{Memory, mapped, storage_of};
 ghost use Rattle.manual.specs.declared.Size.TheVariants.{Long};
 ghost use Rattle.instructions.specs.Line0.{cmpi as cmpi_of};
