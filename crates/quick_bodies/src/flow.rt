@@ -1,12 +1,12 @@
 // Bcc with a byte's or a word's displacement, JSR, PEA and MOVEM, done in place.
 #![tactic(auto, unfolding(instructions::specs::Line4::jsr, instructions::specs::Line4::many, instructions::specs::Line4::movem, instructions::specs::Line4::pea, instructions::specs::Line6::bcc, instructions::specs::Line6::displacement, instructions::specs::Line6::displacement_bytes, manual::specs::Address::control, manual::specs::Address::extension, manual::specs::Address::locate, manual::specs::Address::operand, manual::specs::Change::acting, manual::specs::Registers::no_write, manual::specs::Registers::written, quick_parts::specs::Effects::in_place))]
 
-ghost use Rattle.std.specs.Prelude.{◌≡◌, true, false, ◌+◌, ◌*◌, ◌/◌, ◌%◌};
+ghost use Rattle.std.specs.Prelude.{◌≡◌, Bool, true, false, ℕ, ◌+◌, ◌*◌, ◌/◌, ◌%◌};
 ghost use Rattle.manual.specs.Memory.{mapped};
 ghost use Rattle.instructions.specs.Line4.{jsr as jsr_of, pea as pea_of, movem};
 ghost use Rattle.instructions.specs.Line6.{bcc as bcc_of};
 ghost use Rattle.quick_parts.specs.Effects.{after, agreed};
-ghost use Rattle.quick_bodies.specs.Parts.{places_many};
+ghost use Rattle.quick_bodies.specs.Many.{moving};
 
 use address::changes::{jump, push};
 use manual::Size;
@@ -73,26 +73,28 @@ pub fn pea(g: &mut [u32; 16], pc: u32, sr: &mut u16, mem: &mut [u8], op: u32) ->
 
 // MOVEM's registers by their mask, their place in memory, and the address after its extension words.
 #[derive(Clone, Copy)]
-struct Many {
+struct Movem {
     mask: u32,
     at: u32,
     next: u32,
 }
 
 // Which registers MOVEM moves and where, of (An) and d16(An).
-fn many(g: &[u32; 16], pc: u32, mem: &[u8], op: u32) -> Option<Many> {
+fn moved_many(g: &[u32; 16], pc: u32, mem: &[u8], op: u32) -> Option<Movem>
+    ensures { (stores : Bool) (sr : ℕ) → moving result stores sr (movem stores g.now pc sr (mapped mem.now) op) ≡ movem stores g.now pc sr (mapped mem.now) op }
+{
     let at = plus(pc, 2);
     let mask = load(mem, at, Size::Word).ok()?;
     let a = address(g, op % 8);
     match op / 8 % 8 {
-        2 => Some(Many {
+        2 => Some(Movem {
             mask,
             at: a,
             next: plus(at, 2),
         }),
         5 => {
             let d = load(mem, plus(at, 2), Size::Word).ok()?;
-            Some(Many {
+            Some(Movem {
                 mask,
                 at: plus(a, sign_extended(Size::Word, d)),
                 next: plus(at, 4),
@@ -106,7 +108,7 @@ fn many(g: &[u32; 16], pc: u32, mem: &[u8], op: u32) -> Option<Many> {
 pub fn movem_store(g: &[u32; 16], pc: u32, mem: &mut [u8], op: u32) -> Option<u32>
     ensures { (sr : ℕ) → after result sr g.now mem.new ≡ agreed result (movem true g.now pc sr (mapped mem.old) op) sr g.now (mapped mem.old) }
 {
-    let Many { mask, at, next } = many(g, pc, &*mem, op)?;
+    let Movem { mask, at, next } = moved_many(g, pc, &*mem, op)?;
     store_many(mem, g, mask, at).ok()?;
     Some(next)
 }
@@ -115,7 +117,7 @@ pub fn movem_store(g: &[u32; 16], pc: u32, mem: &mut [u8], op: u32) -> Option<u3
 pub fn movem_load(g: &mut [u32; 16], pc: u32, mem: &[u8], op: u32) -> Option<u32>
     ensures { (sr : ℕ) → after result sr g.new mem.now ≡ agreed result (movem false g.old pc sr (mapped mem.now) op) sr g.old (mapped mem.now) }
 {
-    let Many { mask, at, next } = many(&*g, pc, mem, op)?;
+    let Movem { mask, at, next } = moved_many(&*g, pc, mem, op)?;
     load_many(mem, g, mask, at).ok()?;
     Some(next)
 }
