@@ -10,11 +10,10 @@ ghost use Rattle.rows.specs.Top.{Sound};
 ghost use Rattle.machine.specs.Advance.{advance, ended_as, progress};
 
 use super::Progress;
-use super::turn::{performed, plain};
+use super::turn::{performed, tried};
 use exceptions::entry::refusal;
 use manual::{Cpu, Emac, Ran, Reply, Size, Stepped};
 use memory::load;
-use quick::{in_place, summed};
 use rows::{row_by, top_rows};
 use state::replies::{fault_reply, is_done};
 use state::status::first_refusal;
@@ -68,9 +67,9 @@ fn advanced(top: &[u8], given: Cpu, mem: &mut [u8], budget: u32) -> Progress
         };
         let row = row_by(top, op);
         let other = rest.other;
-        let done = in_place(row, &mut g, pc, &mut sr, mem, op)
-            .or_else(|| summed(row, &mut g, &mut acc, pc, &mut macsr, mask, &*mem, op))
-            .or_else(|| plain(row, &mut g, pc, &mut sr, other, macsr, mask, &acc, mem, op));
+        let done = tried(
+            row, &mut g, &mut acc, pc, &mut sr, &mut macsr, other, mask, mem, op,
+        );
         if let Some(next) = done {
             pc = next;
             vector = 0;
