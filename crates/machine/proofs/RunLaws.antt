@@ -19,7 +19,6 @@ use Rattle.manual.specs.declared.Stepped.{Stepped}
 use Rattle.manual.specs.Registers.{with_parts}
 use Rattle.manual.specs.Memory.{Storage, Memory, load}
 use Rattle.manual.specs.Change.{refuse, refused}
-use Rattle.manual.specs.Emac.{emac_of}
 use Rattle.manual.specs.Reply.{Outcome, outcome, completed, unchanged, refusal, is_done, fault_reply}
 use Rattle.manual.specs.Admitted.{admitted}
 use Rattle.manual.specs.Lent.{Lent, memory_of, lent_on, first_refusal}

@@ -1,4 +1,6 @@
 // Steps and runs.
+#![tactic(auto, unfolding(crate::specs::Advance::progress, instructions::specs::Run::run, instructions::specs::Step::step, manual::specs::Registers::with_parts))]
+
 ghost use Rattle.std.specs.Prelude.{◌≡◌, true, ◌+◌, ◌*◌, ◌/◌, ◌%◌};
 ghost use Rattle.manual.specs.Registers.{with_parts};
 ghost use Rattle.manual.specs.Emac.{emac_of};

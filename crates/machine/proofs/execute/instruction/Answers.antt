@@ -5,14 +5,6 @@ use Rattle.machine.proofs.ExecuteLaws.{of_line, of_line_0}
 use Rattle.machine.proofs.execute.instruction.Goals as goal
 use Rattle.machine.proofs.execute.instruction.Goals.{in_default-via-then-row-lt79+then-row-lt14, in_default-via-else-row-lt79+else-row-lt89+else-row-lt102+else-row-lt106+else-row-lt110+else-row-lt120+else-row-lt123+else-row-lt127}
 
-pub returns-in-14-to-15 : goal.returns-in-14-to-15
-unfolding move_line
-returns-in-14-to-15 c = of_line _ _ _ _ _ _ _ _ _ 1 (omega arith) (omega arith) (omega arith) (omega arith) c.instruction.ensures
-
-pub returns-in-16-to-17 : goal.returns-in-16-to-17
-unfolding move_line
-returns-in-16-to-17 c = of_line _ _ _ _ _ _ _ _ _ 2 (omega arith) (omega arith) (omega arith) (omega arith) c.instruction-in-16-to-17.ensures
-
 pub returns-in-18-to-19 : goal.returns-in-18-to-19
 unfolding move_line
 returns-in-18-to-19 c = of_line _ _ _ _ _ _ _ _ _ 3 (omega arith) (omega arith) (omega arith) (omega arith) c.instruction-in-18-to-19.ensures

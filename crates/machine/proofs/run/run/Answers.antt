@@ -5,10 +5,6 @@ use Rattle.rows.specs.TopLaws.{top_sound}
 use Rattle.machine.proofs.RunLaws.{run_is}
 use Rattle.machine.proofs.run.run.Goals as goal
 
-pub returns-then-not-is_done : goal.returns-then-not-is_done
-unfolding run_of
-returns-then-not-is_done c = rw (← c.first_refusal-first.ensures, ← c.is_done.ensures, c.if-not-is_done.true)
-
 pub advanced-end-requires : goal.advanced-end-requires
 advanced-end-requires c =
     (rw (← c.first_refusal-first.ensures) (sym c.is_done.ensures ∙ c.if-not-is_done.false), rw c.top_rows-top.ensures top_sound)

@@ -3,11 +3,6 @@ use Rattle.instructions.specs.Step.{of_row}
 use Rattle.machine.proofs.TurnLaws.{tried-again}
 use Rattle.machine.proofs.turn.plain.Goals as goal
 
-pub returns-in-Some : goal.returns-in-Some
-returns-in-Some c =
-    let a = c.args in
-    rw c.in-Some.is at (c.far.ensures a.other (emac_of a.macsr a.mask a.acc.now))
-
 pub returns : goal.returns
 returns c =
     let a = c.args in
