@@ -10,14 +10,3 @@ unfolding in_unit mac_registers acting no_write written
 returns c = λ sr e.
     rw (c.product_by.ensures, kept-status sr, ← c.general-rx.ensures, ← c.general-ry.ensures, c.plus.ensures)
 
-pub general-rx-requires : goal.general-rx-requires
-general-rx-requires c = tt
-
-pub general-ry-requires : goal.general-ry-requires
-general-ry-requires c = tt
-
-pub plus-requires : goal.plus-requires
-plus-requires c = tt
-
-pub product_by-requires : goal.product_by-requires
-product_by-requires c = tt
