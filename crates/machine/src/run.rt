@@ -40,8 +40,8 @@ fn assembled(rest: Cpu, g: [u32; 16], pc: u32, sr: u16, macsr: u32, mask: u32, a
 }
 
 // As many steps as the budget says, or up to one that is refused. The registers stand apart from the rest of the state, which is checked
-// once, for every step keeps it admitted; the rows are found by the table that is lent. A word is tried by the two parts of the quick path
-// and then by the plain engine, all in place; what none of them does is done on the whole state.
+// once, for every step keeps it admitted; the rows are found by the table that is lent. A word is tried in place; what is left is done
+// on the whole state.
 fn advanced(top: &[u8], given: Cpu, mem: &mut [u8], budget: u32) -> Progress
     requires { (is_done (first_refusal given (lent mem.old)) ≡ true) × Sound top.now }
     ensures { advance result mem.new ≡ progress budget 0 0 given (lent mem.old) }
@@ -113,12 +113,10 @@ pub fn run(cpu: Cpu, mem: &mut [u8], budget: u32) -> Ran
     }
     let top = top_rows();
     let end = advanced(&top, cpu, mem, budget);
-    let reply = end.reply;
-    let last = end.cpu;
     Ran {
-        reply,
+        reply: end.reply,
         count: end.count,
-        cpu: last,
+        cpu: end.cpu,
     }
 }
 
@@ -133,11 +131,9 @@ pub fn step(cpu: Cpu, mem: &mut [u8]) -> Stepped
     }
     let none: [u8; 0] = [];
     let end = advanced(&none, cpu, mem, 1);
-    let reply = end.reply;
-    let last = end.cpu;
     Stepped {
-        reply,
+        reply: end.reply,
         vector: end.vector,
-        cpu: last,
+        cpu: end.cpu,
     }
 }

@@ -8,7 +8,8 @@ use word::word::{minus, plus};
 
 // The sum s + d of two longs, or the difference d - s, with its N, Z, V and C.
 // V is told by the sign bits: of a sum it is set where neither operand has the sum's, of a difference where the minuend has neither the
-// subtrahend's nor the difference's. It equals `word::flags::sum_or_difference`, which works in 64 bits for every size and is slower.
+// subtrahend's nor the difference's. It equals `word::flags::sum_or_difference`, which works in 64 bits for every size: with that one
+// the table search takes 85 instructions a step, and with this one 74 (docs/PERFORMANCE.md).
 pub fn long_sum(add: bool, s: u32, d: u32) -> Sum
     ensures { result ≡ sum_or_difference add Long s d false }
 {
