@@ -8,30 +8,30 @@ unfolding perform_of
 returns-in-Nothing c =
     rw (← c.applied-cpu.ensures, c.in-Nothing.is, ← c.completed.ensures)
 
-pub returns-in-Done : goal.returns-in-Done
+pub returns-in-Ok : goal.returns-in-Ok
 unfolding perform_of
-returns-in-Done c =
-    rw (← c.applied-cpu.ensures, c.in-Store.is, c.store.ensures.1, ← c.store.ensures.0, c.in-Done.is, ← c.completed-in-Done.ensures)
+returns-in-Ok c =
+    rw (← c.applied-cpu.ensures, c.in-Store.is, c.store.ensures.1, ← c.store.ensures.0, c.in-Ok.is, ← c.completed-in-Ok.ensures)
 
 pub returns-in-Err : goal.returns-in-Err
 unfolding perform_of
 returns-in-Err c =
     rw (← c.applied-cpu.ensures, c.in-Store.is, c.store.ensures.1, not-stored _ _ _ _ _ _ c.store.ensures.0 c.in-Err.is, ← c.store.ensures.0, c.in-Err.is, ← c.faulted.ensures)
 
-pub returns-in-Done-store_many : goal.returns-in-Done-store_many
+pub returns-in-Ok-store_many : goal.returns-in-Ok-store_many
 unfolding perform_of
-returns-in-Done-store_many c =
-    rw (← c.applied-cpu.ensures, c.in-StoreMany.is, c.store_many.ensures.1, ← c.store_many.ensures.0, c.in-Done-store_many.is, ← c.completed-in-Done-store_many.ensures)
+returns-in-Ok-store_many c =
+    rw (← c.applied-cpu.ensures, c.in-StoreMany.is, c.store_many.ensures.1, ← c.store_many.ensures.0, c.in-Ok-store_many.is, ← c.completed-in-Ok-store_many.ensures)
 
 pub returns-in-Err-store_many : goal.returns-in-Err-store_many
 unfolding perform_of
 returns-in-Err-store_many c =
     rw (← c.applied-cpu.ensures, c.in-StoreMany.is, c.store_many.ensures.1, ← c.store_many.ensures.0, c.in-Err-store_many.is, ← c.faulted-in-Err-store_many.ensures)
 
-pub returns-in-Done-load_many : goal.returns-in-Done-load_many
+pub returns-in-Ok-load_many : goal.returns-in-Ok-load_many
 unfolding perform_of
-returns-in-Done-load_many c =
-    rw (← c.applied-cpu.ensures, c.in-LoadMany.is, c.completed-in-Done-load_many.ensures, c.with_registers.ensures, c.load_many.ensures.1, ← c.load_many.ensures.0, c.in-Done-load_many.is)
+returns-in-Ok-load_many c =
+    rw (← c.applied-cpu.ensures, c.in-LoadMany.is, c.completed-in-Ok-load_many.ensures, c.with_registers.ensures, c.load_many.ensures.1, ← c.load_many.ensures.0, c.in-Ok-load_many.is)
 
 pub returns-in-Err-load_many : goal.returns-in-Err-load_many
 unfolding perform_of
