@@ -168,7 +168,7 @@ class Contract:
         if re.fullmatch(r"<\w+: Read>", self.function.generics):
             self.kind = READER
             return self.reader(bodies)
-        if "<" in self.function.parameters or self.known.get("≡") != ("Rattle.std.specs.Prelude", "◌≡◌"):
+        if "<" in re.sub(r"\b(?:Option|Result)<[\w, ]*>", "", self.function.parameters) or self.known.get("≡") != ("Rattle.std.specs.Prelude", "◌≡◌"):
             raise Fault("a parameter holds a reference, or ≡ is not the library's")
         bodies = [bare(tree(body)) for body in bodies]
         if self.name(next(iter(split(bodies[0], "→")[-1]), "")) in set(AGREED) | FILLED:
