@@ -1,5 +1,6 @@
 // What a word changes, taken for the instruction of a row.
 #![tactic(auto, unfolding(instructions::specs::Step::of_row, lines0to3::specs::MoveLines::move_line))]
+
 ghost use Rattle.std.specs.Prelude.{◌≡◌};
 ghost use Rattle.manual.specs.Memory.{mapped};
 ghost use Rattle.manual.specs.Emac.{emac_of};

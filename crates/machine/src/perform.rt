@@ -1,5 +1,6 @@
 // What an instruction leaves is done, once all of it has been tested.
 #![tactic(auto, unfolding(instructions::specs::Perform::perform, instructions::specs::Perform::status_pushed))]
+
 ghost use Rattle.std.specs.Prelude.{◌≡◌, ◌+◌, ◌*◌, ◌/◌, ◌%◌};
 ghost use Rattle.manual.specs.Memory.{mapped};
 ghost use Rattle.manual.specs.Reply.{outcome};

@@ -1,5 +1,6 @@
 // One instruction by the plain engine, its word and row being known.
 #![tactic(auto, unfolding(instructions::specs::Perform::perform, instructions::specs::Step::of_row))]
+
 ghost use Rattle.std.specs.Prelude.{◌≡◌};
 ghost use Rattle.manual.specs.Memory.{mapped};
 ghost use Rattle.manual.specs.Emac.{emac_of};
