@@ -1,5 +1,5 @@
 -- One turn of a run: what a step of each kind does to it, and that the loop's count is the definition's. Assumes nothing.
-use Rattle.std.specs.Prelude.{Result, Ok, Err}
+use Rattle.std.specs.Prelude.{Option, Some, None, Result, Ok, Err}
 use Prim.Native.Nat.{ℕ, zero, suc, ◌+◌, ◌-◌, ◌≤◌, ◌<◌}
 use mathlib.Core.Path.{◌≡◌, refl, sym, ap, ◌∙◌}
 use mathlib.Core.Bool.{Bool, true, false, cond}
@@ -32,14 +32,7 @@ use Rattle.machine.specs.Advance.{Advance, advance, ended_as, progress}
 use Rattle.rows.specs.RowLaws.{of_row_lem}
 use Rattle.state.specs.FirstLaws.{first-admitted, first-kept}
 use Rattle.machine.specs.KeptLaws.{perform-admitted}
-use Rattle.quick_parts.specs.declared.inplace.Effect.{Effect}
-use Rattle.quick_parts.specs.declared.inplace.Effect.TheVariants.{Done as OnPlace, Left as NotOnPlace}
-use Rattle.quick_parts.specs.Effects.{after as effected, agreed}
-use Rattle.quick_parts.specs.PlaceLaws as place
-use Rattle.quick_bodies.specs.declared.mac.Summed.{Summed}
-use Rattle.quick_bodies.specs.declared.mac.Summed.TheVariants.{Done as OnUnit, Left as NotOnUnit}
-use Rattle.quick_bodies.specs.Units.{AfterMac, after_mac, agreed_mac, undone}
-use Rattle.quick_bodies.specs.UnitLaws.{summed-performed}
+use Rattle.machine.proofs.TurnLaws as turns
 
 -- ---- a run over a step, which stays shut
 
@@ -172,37 +165,24 @@ module _ {b k v : ℕ} {whole : Advance} {g : List ℕ} {pc sr : ℕ} {e : Emac}
   pub stops-here : (r : Stepped) (m' : Storage) → outcome r m' ≡ step here l → is_done r.reply ≡ false → advance (ended_as r.reply k 0 r.cpu) m' ≡ whole
   stops-here r m' h d = stops b k v whole here l t.turn.inv r m' t.turn.more h d
 
-  -- a word that is left undone leaves the turn as it was
-  as_left : (g' : List ℕ) (e' : Emac) (m' : Storage) → g' ≡ g → e' ≡ e → m' ≡ l.storage → Fetched b k v whole g' pc sr e' rest (lent_on l m') op row
-  as_left g' e' m' p q s = record {
-    turn = record { more = t.turn.more; ready = rw (p, q, s) t.turn.ready; inv = rw (p, q, s) t.turn.inv };
-    going = t.going;
-    word = rw s t.word;
-    is-row = t.is-row;
-  }
+  -- in place: what is done is the step, and a word that is left leaves the turn as it was
+  module _ (g' : List ℕ) (sr' : ℕ) (e' : Emac) (m' : Storage) (r : Option ℕ) (h : turns.Turn row pc rest.other op rest r g sr e l.storage g' sr' e' m') where
+    pub in_turn : (pc' : ℕ) → r ≡ Some pc' → completed (with_parts g' pc' sr' e' rest) 0 m' ≡ step here l
+    in_turn pc' q = (rw q at h) ∙ sym is-step
 
-  -- in place: what is done is the step
-  module _ (g' : List ℕ) (m' : Storage) (r : Effect) (h : effected r g' m' ≡ agreed r c sr g (memory_of l)) where
-    pub again : r ≡ NotOnPlace → Fetched b k v whole g' pc sr e rest (lent_on l m') op row
-    again q =
-        let p : effected NotOnPlace g' m' ≡ effected NotOnPlace g l.storage = rw q at h in
-        as_left g' e m' (place.left-registers g l.storage g' m' p) refl (place.left-memory g l.storage g' m' p)
-
-    pub in_place : (pc' sr' : ℕ) → r ≡ OnPlace pc' sr' → completed (with_parts g' pc' sr' e rest) 0 m' ≡ step here l
-    in_place pc' sr' q = place.performed g pc sr e rest (memory_of l) c pc' sr' g' m' (rw q at h) ∙ sym is-step
-
--- in the unit: the same, of what leaves storage as it is
-module _ {b k v : ℕ} {whole : Advance} {g : List ℕ} {pc sr : ℕ} {rest : Cpu} {l : Lent} {op row : ℕ} (macsr mask : ℕ) (acc : List ℕ)
-    (t : Fetched b k v whole g pc sr (emac_of macsr mask acc) rest l op row) (g' acc' : List ℕ) (r : Summed)
-    (h : after_mac r sr macsr mask acc' g' ≡ agreed_mac r (c t) sr (emac_of macsr mask acc) g) where
-  pub again-unit : r ≡ NotOnUnit → Fetched b k v whole g' pc sr (emac_of macsr mask acc') rest l op row
-  again-unit q =
-      let p : undone sr g' (emac_of macsr mask acc') ≡ undone sr g (emac_of macsr mask acc) = rw q at h in
-      as_left t g' (emac_of macsr mask acc') l.storage (ap (λ (a : AfterMac). a.registers) p) (ap (λ (a : AfterMac). a.unit) p) refl
-
-  pub in_unit_lem : (pc' macsr' : ℕ) → r ≡ OnUnit pc' macsr' → completed (with_parts g' pc' sr (emac_of macsr' mask acc') rest) 0 l.storage ≡ step (here t) l
-  in_unit_lem pc' macsr' q =
-      summed-performed g pc sr (emac_of macsr mask acc) rest (memory_of l) (c t) pc' (emac_of macsr' mask acc') g' (rw q at h) ∙ sym (is-step t)
+    pub left : r ≡ None → Fetched b k v whole g' pc sr' e' rest (lent_on l m') op row
+    left q =
+        let u : turns.Turn row pc rest.other op rest None g sr e l.storage g' sr' e' m' = rw q at h in
+        let p : g' ≡ g = turns.kept-registers row pc rest.other op rest g sr e l.storage g' sr' e' m' u in
+        let s : sr' ≡ sr = turns.kept-status row pc rest.other op rest g sr e l.storage g' sr' e' m' u in
+        let n : e' ≡ e = turns.kept-unit row pc rest.other op rest g sr e l.storage g' sr' e' m' u in
+        let o : m' ≡ l.storage = turns.kept-storage row pc rest.other op rest g sr e l.storage g' sr' e' m' u in
+        record {
+          turn = record { more = t.turn.more; ready = rw (p, s, n, o) t.turn.ready; inv = rw (p, s, n, o) t.turn.inv };
+          going = t.going;
+          word = rw o t.word;
+          is-row = t.is-row;
+        }
 
 -- ---- the definition's run
 

@@ -1,3 +1,4 @@
 pub mod KeptLaws
 pub mod Completed
 pub mod Advance
+pub mod Turn

@@ -10,13 +10,10 @@ ghost use Rattle.rows.specs.Top.{Sound};
 ghost use Rattle.machine.specs.Advance.{advance, ended_as, progress};
 
 use super::Progress;
-use super::turn::{performed, plain};
+use super::turn::{performed, tried};
 use exceptions::entry::refusal;
 use manual::{Cpu, Emac, Ran, Reply, Size, Stepped};
 use memory::load;
-use quick::{in_place, summed};
-use quick_bodies::mac::Summed;
-use quick_parts::inplace::Effect;
 use rows::{row_by, top_rows};
 use state::replies::{fault_reply, is_done};
 use state::status::first_refusal;
@@ -57,7 +54,6 @@ fn advanced(top: &[u8], given: Cpu, mem: &mut [u8], budget: u32) -> Progress
     let mut vector: u8 = 0;
     let mut n: u32 = 0;
     while n < budget {
-        let done = n + 1;
         if rest.stopped {
             let last = assembled(rest, g, pc, sr, macsr, mask, acc);
             return ended(Reply::Stopped, n, 0, last);
@@ -70,32 +66,15 @@ fn advanced(top: &[u8], given: Cpu, mem: &mut [u8], budget: u32) -> Progress
             }
         };
         let row = row_by(top, op);
-        if let Effect::Done(next, now) = in_place(row, &mut g, pc, sr, mem, op) {
-            pc = next;
-            sr = now;
-            vector = 0;
-            n = done;
-            continue;
-        }
-        if let Summed::Done(next, now) = summed(
-            row, &mut g, &mut acc, pc, sr, macsr, mask, &*mem, op,
-        ) {
-            pc = next;
-            macsr = now;
-            vector = 0;
-            n = done;
-            continue;
-        }
         let other = rest.other;
-        match plain(row, &mut g, pc, sr, other, macsr, mask, &acc, mem, op) {
-            Effect::Done(next, now) => {
-                pc = next;
-                sr = now;
-                vector = 0;
-                n = done;
-                continue;
-            }
-            Effect::Left => {}
+        let done = tried(
+            row, &mut g, &mut acc, pc, &mut sr, &mut macsr, other, mask, mem, op,
+        );
+        if let Some(next) = done {
+            pc = next;
+            vector = 0;
+            n += 1;
+            continue;
         }
         let held = assembled(rest, g, pc, sr, macsr, mask, acc);
         let stepped = performed(row, held, mem, op);
@@ -112,7 +91,7 @@ fn advanced(top: &[u8], given: Cpu, mem: &mut [u8], budget: u32) -> Progress
         mask = next.emac.mask;
         acc = next.emac.acc;
         vector = stepped.vector;
-        n = done;
+        n += 1;
     }
     let last = assembled(rest, g, pc, sr, macsr, mask, acc);
     ended(Reply::Done, n, vector, last)

@@ -1,1 +1,2 @@
 pub mod LoadLaws
+pub mod ManyLaws

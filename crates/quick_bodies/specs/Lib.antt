@@ -1,3 +1,4 @@
+pub mod Many
 pub mod Parts
 pub mod Units
 pub mod UnitLaws

@@ -1,6 +1,5 @@
 -- A change that was summed in place is what the definition's step does. Assumes nothing.
-use Rattle.std.specs.Prelude.{ℕ, ◌≡◌, true, false, List}
-use Rattle.std.proofs.Common.{arith}
+use Rattle.std.specs.Prelude.{ℕ, ◌≡◌, List, Option, Some, None}
 use Rattle.std.proofs.Math.Path.{sym, ap}
 use Rattle.manual.specs.declared.Cpu.{Cpu}
 use Rattle.manual.specs.declared.Emac.{Emac}
@@ -27,16 +26,15 @@ module _ (g : List ℕ) (pc sr : ℕ) (e : Emac) (rest : Cpu) (m : Memory) (c : 
   the_same : (u : Emac) → summed pc' sr g' e' ≡ changed u → next ≡ completed (with_emac u (applied state c)) 0 m
   unfolding applied with_parts with_emac
   the_same u h =
-      let p : pc' ≡ c.pc = ap (λ (a : AfterMac). a.next) h in
+      let o : ◌≡◌ {A = Option ℕ} (Some pc') (Some c.pc) = ap (λ (a : AfterMac). a.next) h in
+      let p : pc' ≡ c.pc = cc in
       let s : coded sr c.ccr ≡ sr = sym (ap (λ (a : AfterMac). a.status) h) in
       let r : g' ≡ written c.second (written c.first g) = ap (λ (a : AfterMac). a.registers) h in
       let n : e' ≡ u = ap (λ (a : AfterMac). a.unit) h in
       rw (p, s, r, n)
 
   clash : summed pc' sr g' e' ≡ undone sr g e → ⊥
-  clash h =
-      let q : true ≡ false = ap (λ (a : AfterMac). a.done) h in
-      cc
+  clash h = let q : ◌≡◌ {A = Option ℕ} (Some pc') None = ap (λ (a : AfterMac). a.next) h in cc
 
   by_action : (a : Action) → summed pc' sr g' e' ≡ acted_on a changed (undone sr g e) e → next ≡ act state (applied state c) a m
   unfolding applied with_parts

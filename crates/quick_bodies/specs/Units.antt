@@ -1,5 +1,5 @@
 -- A change that accumulates, done in place: its registers and its sum. Any other change is left undone.
-use Rattle.std.specs.Prelude.{ℕ, ◌+◌, ◌-◌, ◌*◌, Bool, true, false, List}
+use Rattle.std.specs.Prelude.{ℕ, ◌+◌, ◌-◌, ◌*◌, List, Option, Some, None}
 use Rattle.manual.specs.declared.Size.TheVariants.{Long}
 use Rattle.manual.specs.declared.Write.{Write}
 use Rattle.manual.specs.declared.Emac.{Emac}
@@ -15,30 +15,24 @@ use Rattle.manual.specs.Fields.{bits, mac_register, low_four, high_four}
 use Rattle.manual.specs.Bits.{bit_of}
 use Rattle.instructions.specs.LineA.{operand, accumulating}
 use Rattle.quick_parts.specs.declared.Spot.{Spot}
-use Rattle.quick_parts.specs.declared.Spot.TheVariants.{At, NotNear}
-use Rattle.quick_bodies.specs.declared.mac.Summed.{Summed}
-use Rattle.quick_bodies.specs.declared.mac.Summed.TheVariants.{Done, Left}
 use Rattle.quick_bodies.specs.declared.mac.Product.{Product}
-use Rattle.quick_bodies.specs.declared.mac.Product.TheVariants.{Of, Left as NoProduct}
 
--- whether a change was done, and what is there after it
+-- the next address of a change that was done, or none, and what is there after it
 pub record AfterMac : Type 0 where
-  pub done : Bool
-  pub next : ℕ
+  pub next : Option ℕ
   pub status : ℕ
   pub registers : List ℕ
   pub unit : Emac
 
 abbrev pub summed : ℕ → ℕ → List ℕ → Emac → AfterMac
-summed next sr g e = record { done = true; next = next; status = sr; registers = g; unit = e }
+summed next sr g e = record { next = Some next; status = sr; registers = g; unit = e }
 
 abbrev pub undone : ℕ → List ℕ → Emac → AfterMac
-undone sr g e = record { done = false; next = 0; status = sr; registers = g; unit = e }
+undone sr g e = record { next = None; status = sr; registers = g; unit = e }
 
 -- the status register is as it was
-abbrev pub after_mac : Summed → ℕ → ℕ → ℕ → List ℕ → List ℕ → AfterMac
-after_mac (Done next macsr') sr macsr mask acc g = summed next sr g (emac_of macsr' mask acc)
-after_mac Left sr macsr mask acc g = undone sr g (emac_of macsr mask acc)
+abbrev pub after_mac : Option ℕ → ℕ → ℕ → ℕ → List ℕ → List ℕ → AfterMac
+after_mac next sr macsr mask acc g = record { next = next; status = sr; registers = g; unit = emac_of macsr mask acc }
 
 -- what an action makes of the unit, or nothing
 abbrev pub acted_on : Action → (Emac → AfterMac) → AfterMac → Emac → AfterMac
@@ -69,25 +63,33 @@ in_unit c sr e g =
     (λ e'. summed c.pc (coded sr c.ccr) (written c.second (written c.first g)) e')
     (undone sr g e) e
 
--- an answer says that the change was done, or that nothing was
-abbrev pub agreed_mac : Summed → Change → ℕ → Emac → List ℕ → AfterMac
-agreed_mac (Done next macsr') c sr e g = in_unit c sr e g
-agreed_mac Left c sr e g = undone sr g e
+-- the next address says that the change was done, none that nothing was
+abbrev pub agreed_mac : Option ℕ → Change → ℕ → Emac → List ℕ → AfterMac
+agreed_mac (Some next) c sr e g = in_unit c sr e g
+agreed_mac None c sr e g = undone sr g e
 
 -- ---- a product that is yet to be summed
 
 -- of registers x and y, by the second word w
 abbrev pub product_by : ℕ → ℕ → ℕ → ℕ → ℕ → ℕ → Product
-product_by next macsr w i x y = Of next i (bits 10 9 w) (bit_of 8 w) (operand macsr w (bit_of 7 w) x) (operand macsr w (bit_of 6 w) y)
+product_by next macsr w i x y =
+    record {
+      next = next;
+      accumulator = i;
+      scale = bits 10 9 w;
+      subtracted = bit_of 8 w;
+      x = operand macsr w (bit_of 7 w) x;
+      y = operand macsr w (bit_of 6 w) y;
+    }
 
 -- with the unit that it is summed in
-abbrev pub once_summed : Product → ℕ → Emac → List ℕ → AfterMac
-once_summed (Of next i scale sub x y) sr e g = summed next sr g (accumulate e i scale sub x y)
-once_summed NoProduct sr e g = undone sr g e
+abbrev pub once_summed : Option Product → ℕ → Emac → List ℕ → AfterMac
+once_summed (Some p) sr e g = summed p.next sr g (accumulate e p.accumulator p.scale p.subtracted p.x p.y)
+once_summed None sr e g = undone sr g e
 
-abbrev pub agreed_product : Product → Change → ℕ → Emac → List ℕ → AfterMac
-agreed_product (Of next i scale sub x y) c sr e g = in_unit c sr e g
-agreed_product NoProduct c sr e g = undone sr g e
+abbrev pub agreed_product : Option Product → Change → ℕ → Emac → List ℕ → AfterMac
+agreed_product (Some p) c sr e g = in_unit c sr e g
+agreed_product None c sr e g = undone sr g e
 
 -- ---- a load
 
@@ -102,7 +104,7 @@ loading g sr macsr op w v next step =
       action = accumulating macsr w (1 - bits 7 7 op + bits 4 4 w * 2) (general g (high_four w)) (general g (low_four w));
     }
 
--- the change that loads from a spot. `NotNear` says nothing
-abbrev pub from_spot : Spot → List ℕ → ℕ → ℕ → Memory → ℕ → ℕ → Change → Change
-from_spot (At a next step) g sr macsr m op w c = reading (load m a Long) λ v. loading g sr macsr op w v next step
-from_spot NotNear g sr macsr m op w c = c
+-- the change that loads from a spot. None says nothing
+abbrev pub from_spot : Option Spot → List ℕ → ℕ → ℕ → Memory → ℕ → ℕ → Change → Change
+from_spot (Some s) g sr macsr m op w c = reading (load m s.at Long) λ v. loading g sr macsr op w v s.next s.moved
+from_spot None g sr macsr m op w c = c

@@ -1,2 +1,3 @@
 pub mod LongLaws
 pub mod OperandLaws
+pub mod StoreLaws

@@ -1,14 +1,15 @@
--- The condition codes of longs by the highest bits of numbers below 2 ^ 32. Assumes nothing.
+-- Sums and differences of longs by the highest bits of numbers below 2 ^ 32. Assumes nothing.
 use mathlib.Core.Path.{◌≡◌, refl}
 use mathlib.Core.Bool.{Bool, true, false, not, ◌&&◌, beq}
-use Prim.Native.Nat.{ℕ, ◌+◌, ◌-◌, ◌*◌, ◌/◌, ◌%◌, ◌≤◌, ◌<◌}
+use Prim.Native.Nat.{ℕ, ◌+◌, ◌-◌, ◌/◌, ◌%◌, ◌≤◌, ◌<◌}
 use native.Mathlib.Omega.{arith}
 use lib.Bits.{bit_and, bit_xor, and_shr, xor_shr}
 use lib.Dec.{ltb, leb, eqb}
 use borrow.Author.Tests.{lt-ltb, le-ltb, le-leb, lt-leb}
 use Rattle.manual.specs.declared.Size.TheVariants.{Long}
-use Rattle.manual.specs.Word.{bit, cut, plus, minus}
-use Rattle.manual.specs.Flags.{codes, move_codes, added, subtracted, sum_codes, compare_codes}
+use Rattle.manual.specs.declared.Sum.{Sum}
+use Rattle.manual.specs.Word.{bit, plus, minus}
+use Rattle.manual.specs.Flags.{sum_or_difference}
 use Rattle.word.specs.TestLaws.{Tested, yes, no, tested, by-lt}
 use Rattle.word.specs.WordLaws.{cut_small}
 use Rattle.word.proofs.Sums.{added_law, subtracted_law}
@@ -46,69 +47,43 @@ bits_of_difference false true false = refl
 bits_of_difference false false true = refl
 bits_of_difference false false false = refl
 
--- bit 4, where it stands
-x-stays : (x : ℕ) → bit (eqb (x % 2) 1) ≡ x % 2
-x-stays x = by-lt (x % 2) 1
-    (λ l. let e : x % 2 ≡ 0 = omega arith in rw e)
-    (λ l. let e : x % 2 ≡ 1 = omega arith in rw e)
-
-pub move-codes : (v sr : ℕ) → v < N → sr / 16 % 2 * 16 + v / H * 8 + bit (eqb v 0) * 4 ≡ move_codes Long v sr
-unfolding move_codes codes
-move-codes v sr h = rw (cut_small Long v h, x-stays (sr / 16), ← top v h) (omega arith)
+-- a number below 2 ^ 32 is at least 2 ^ 31 where its highest bit is set
+highest : (x : ℕ) (p : Bool) → x / H ≡ bit p → leb H x ≡ p
+highest x true h = le-leb H x (omega arith)
+highest x false h = lt-leb H x (omega arith)
 
 module _ (s d r : ℕ) (hs : s < N) (hd : d < N) (hr : r < N) where
-  sum_overflow : bit_and (bit_xor s r) (bit_xor d r) / H ≡ bit (beq (leb H s) (leb H d) && not (beq (leb H r) (leb H d)))
+  sum_overflow : leb H (bit_and (bit_xor s r) (bit_xor d r)) ≡ (beq (leb H s) (leb H d) && not (beq (leb H r) (leb H d)))
   sum_overflow =
-      rw (and_shr (bit_xor s r) (bit_xor d r) 31, xor_shr s r 31, xor_shr d r 31, top s hs, top d hd, top r hr)
-      (bits_of_sum (leb H s) (leb H d) (leb H r))
+      highest (bit_and (bit_xor s r) (bit_xor d r)) _ (rw (and_shr (bit_xor s r) (bit_xor d r) 31, xor_shr s r 31, xor_shr d r 31, top s hs, top d hd, top r hr)
+      (bits_of_sum (leb H s) (leb H d) (leb H r)))
 
-  difference_overflow : bit_and (bit_xor s d) (bit_xor r d) / H ≡ bit (not (beq (leb H s) (leb H d)) && not (beq (leb H r) (leb H d)))
+  difference_overflow : leb H (bit_and (bit_xor s d) (bit_xor r d)) ≡ (not (beq (leb H s) (leb H d)) && not (beq (leb H r) (leb H d)))
   difference_overflow =
-      rw (and_shr (bit_xor s d) (bit_xor r d) 31, xor_shr s d 31, xor_shr r d 31, top s hs, top d hd, top r hr)
-      (bits_of_difference (leb H s) (leb H d) (leb H r))
+      highest (bit_and (bit_xor s d) (bit_xor r d)) _ (rw (and_shr (bit_xor s d) (bit_xor r d) 31, xor_shr s d 31, xor_shr r d 31, top s hs, top d hd, top r hr)
+      (bits_of_difference (leb H s) (leb H d) (leb H r)))
 
 sum_carry : (s d : ℕ) → s < N → d < N → leb N (s + d + 0) ≡ ltb ((s + d) % N) s
 sum_carry s d hs hd = by-lt (s + d) N
     (λ l. let a : s + d + 0 < N = omega arith in let b : s ≤ (s + d) % N = omega arith in rw (lt-leb N (s + d + 0) a, le-ltb ((s + d) % N) s b))
     (λ l. let a : N ≤ s + d + 0 = omega arith in let b : (s + d) % N < s = omega arith in rw (le-leb N (s + d + 0) a, lt-ltb ((s + d) % N) s b))
 
+-- the number, the bits that tell of V, and C, of a sum or a difference
+abbrev told : ℕ → ℕ → Bool → Sum
+told value signs carry = record { value = value; negative = leb H value; zero = eqb value 0; overflow = leb H signs; carry = carry }
+
 module _ (s d : ℕ) (hs : s < N) (hd : d < N) where
-  pub sum_codes_lem :
-      plus s d / H * 8 + bit (eqb (plus s d) 0) * 4 + bit_and (bit_xor s (plus s d)) (bit_xor d (plus s d)) / H * 2 + bit (ltb (plus s d) s) * 17
-      ≡ sum_codes (added Long s d false)
-  unfolding plus sum_codes codes
-  sum_codes_lem =
+  pub long_added : told (plus s d) (bit_and (bit_xor s (plus s d)) (bit_xor d (plus s d))) (ltb (plus s d) s) ≡ sum_or_difference true Long s d false
+  unfolding plus sum_or_difference
+  long_added =
       let r : (s + d + 0) % N ≡ (s + d) % N = omega arith in
       let l : (s + d) % N < N = omega arith in
-      rw (← added_law Long s d false, cut_small Long s hs, cut_small Long d hd, r, sum_carry s d hs hd, sum_overflow s d ((s + d) % N) hs hd l, top ((s + d) % N) l)
-      (omega arith)
+      rw (← added_law Long s d false, cut_small Long s hs, cut_small Long d hd, r, sum_carry s d hs hd, sum_overflow s d ((s + d) % N) hs hd l)
 
-  pub difference-codes :
-      minus d s / H * 8 + bit (eqb (minus d s) 0) * 4 + bit_and (bit_xor s d) (bit_xor (minus d s) d) / H * 2 + bit (ltb d s) * 17
-      ≡ sum_codes (subtracted Long s d false)
-  unfolding minus sum_codes codes
-  difference-codes =
+  pub long_subtracted : told (minus d s) (bit_and (bit_xor s d) (bit_xor (minus d s) d)) (ltb d s) ≡ sum_or_difference false Long s d false
+  unfolding minus sum_or_difference
+  long_subtracted =
       let r : (d + N - (s + 0)) % N ≡ (d + (N - s)) % N = omega arith in
       let l : (d + (N - s)) % N < N = omega arith in
       let z : s + 0 ≡ s = omega arith in
-      rw (← subtracted_law Long s d false, cut_small Long s hs, cut_small Long d hd, r, z, difference_overflow s d ((d + (N - s)) % N) hs hd l, top ((d + (N - s)) % N) l)
-      (omega arith)
-
-  pub compare_codes_lem : (sr : ℕ) →
-      sr / 16 % 2 * 16 + minus d s / H * 8 + bit (eqb (minus d s) 0) * 4 + bit_and (bit_xor s d) (bit_xor (minus d s) d) / H * 2 + bit (ltb d s)
-      ≡ compare_codes sr (subtracted Long s d false)
-  unfolding minus compare_codes codes
-  compare_codes_lem sr =
-      let r : (d + N - (s + 0)) % N ≡ (d + (N - s)) % N = omega arith in
-      let l : (d + (N - s)) % N < N = omega arith in
-      let z : s + 0 ≡ s = omega arith in
-      rw (← subtracted_law Long s d false, cut_small Long s hs, cut_small Long d hd, r, z, x-stays (sr / 16), difference_overflow s d ((d + (N - s)) % N) hs hd l, top ((d + (N - s)) % N) l)
-      (omega arith)
-
-pub sum_value : (s d : ℕ) → plus s d ≡ (added Long s d false).value
-unfolding plus added cut
-sum_value s d = omega arith
-
-pub difference-value : (s d : ℕ) → s < N → minus d s ≡ (subtracted Long s d false).value
-unfolding minus subtracted cut
-difference-value s d h = omega arith
+      rw (← subtracted_law Long s d false, cut_small Long s hs, cut_small Long d hd, r, z, difference_overflow s d ((d + (N - s)) % N) hs hd l)

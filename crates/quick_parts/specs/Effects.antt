@@ -1,22 +1,21 @@
 -- A change that is done in place: its registers, its store, and the registers that MOVEM stores or loads. Any other change is left undone.
-use Rattle.std.specs.Prelude.{ℕ, List, Result, Ok, Err}
+use Rattle.std.specs.Prelude.{ℕ, List, Option, Some, None, Result, Ok, Err}
 use Rattle.manual.specs.declared.Fault.{Fault}
 use Rattle.manual.specs.declared.Action.{Action}
 use Rattle.manual.specs.declared.Action.TheVariants.{Nothing, Store, StoreMany, LoadMany, Enter, Return, Status, Stop, PushStatus, Halt, SetOther, Accumulate, SetAcc, SetExt, SetMacsr, SetMask, CopyAcc, ClearAcc, MoveControl, Refuse}
 use Rattle.manual.specs.declared.Change.{Change}
 use Rattle.manual.specs.Registers.{written, coded}
 use Rattle.manual.specs.Memory.{Storage, Memory, storage_of, storing, stored, access_many, stored_many, loaded_many}
-use Rattle.quick_parts.specs.declared.inplace.Effect.{Effect}
-use Rattle.quick_parts.specs.declared.inplace.Effect.TheVariants.{Done, Left}
 
--- an effect, and the registers and storage after it
+-- the next address of a change that was done, or none, and the status register, the registers and storage after it
 pub record After : Type 0 where
-  pub effect : Effect
+  pub next : Option ℕ
+  pub status : ℕ
   pub registers : List ℕ
   pub storage : Storage
 
-abbrev pub after : Effect → List ℕ → Storage → After
-after e g b = record { effect = e; registers = g; storage = b }
+abbrev pub after : Option ℕ → ℕ → List ℕ → Storage → After
+after next sr g b = record { next = next; status = sr; registers = g; storage = b }
 
 -- one thing where memory took it, else another
 abbrev pub where_taken : Result Unit Fault → After → After → After
@@ -49,10 +48,10 @@ acted (Refuse n) f left g m = left
 unfoldable pub in_place : Change → ℕ → List ℕ → Memory → After
 in_place c sr g m =
     acted c.action
-    (λ g' b. after (Done c.pc (coded sr c.ccr)) g' b)
-    (after Left g (storage_of m)) (written c.second (written c.first g)) m
+    (λ g' b. after (Some c.pc) (coded sr c.ccr) g' b)
+    (after None sr g (storage_of m)) (written c.second (written c.first g)) m
 
--- an effect says that the change was done, or that nothing was
-abbrev pub agreed : Effect → Change → ℕ → List ℕ → Memory → After
-agreed (Done pc sr') c sr g m = in_place c sr g m
-agreed Left c sr g m = after Left g (storage_of m)
+-- the next address says that the change was done, none that nothing was
+abbrev pub agreed : Option ℕ → Change → ℕ → List ℕ → Memory → After
+agreed (Some next) c sr g m = in_place c sr g m
+agreed None c sr g m = after None sr g (storage_of m)

@@ -1,4 +1,4 @@
-// What the quick bodies stand on: a change done in place, operands at the near modes, and the condition codes of longs.
+// What the quick bodies stand on: a change done in place, operands at the near modes, and sums of longs.
 #![tactic(auto)]
 
 pub mod inplace;
@@ -7,16 +7,18 @@ pub mod operands;
 
 use manual::Write;
 
-// Where an operand in memory is, the address after its extension words, and the move of its register; or a mode that is not near.
+// Where an operand in memory is, the address after its extension words, and the move of its register.
 #[derive(Clone, Copy)]
-pub enum Spot {
-    At(u32, u32, Write),
-    NotNear,
+pub struct Spot {
+    pub at: u32,
+    pub next: u32,
+    pub moved: Write,
 }
 
-// What an operand reads, the address after its extension words, and the move of its register; or one that is not near, or not inside.
+// What an operand reads, the address after its extension words, and the move of its register.
 #[derive(Clone, Copy)]
-pub enum Reading {
-    Read(u32, u32, Write),
-    NotNear,
+pub struct Reading {
+    pub value: u32,
+    pub next: u32,
+    pub moved: Write,
 }

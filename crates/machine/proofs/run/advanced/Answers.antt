@@ -1,5 +1,5 @@
 -- `machine::run::advanced` meets its contract. A turn of the loop knows more at each of its parts: its word and row, and then that the
--- quick path's parts and the plain engine left the word as it was.
+-- three ways in place left the word as it was.
 -- Assumes nothing.
 use Rattle.std.proofs.Common.{◌∙◌, refl, sym, arith, rules}
 use Rattle.manual.specs.Registers.{with_parts}
@@ -23,83 +23,41 @@ returns-in-Err c =
     rw (c.ended-in-Err.ensures, c.fault_reply.ensures)
     (laws.unfetched (laws.turned c.loop-n-test.true i.2 i.3) c.if-rest.false _ _ c.load.ensures c.in-Err.is _ c.assembled-last-in-Err.ensures)
 
-pub loop-n-preserved-in-Done : goal.loop-n-preserved-in-Done
-loop-n-preserved-in-Done c =
+pub loop-n-preserved-in-Some : goal.loop-n-preserved-in-Some
+loop-n-preserved-in-Some c =
     let x = c.loop-n in
     let i = x.invariant in
-    let e = emac_of x.macsr x.mask x.acc in
-    let p = c.in_place in
-    let d = c.in-Done in
     let f = laws.fetched_at (laws.turned c.loop-n-test.true i.2 i.3) c.if-rest.false (sym c.load.ensures ∙ c.in-Ok.is) (c.row_by-row.ensures ∙ c.requires.1 c.in-Ok.op) in
-    let next = with_parts p.new.g d.next d.now e x.rest in
-    let done = laws.in_place f p.new.g p.new.mem p.result (p.ensures x.rest.other e) d.next d.now d.is in
-    let o = laws.goes_on f (completed_step next) p.new.mem p.auto.mem done refl in
+    let p = c.tried-done in
+    let d = c.in-Some in
+    let e = emac_of p.new.macsr x.mask p.new.acc in
+    let done = laws.in_turn f p.new.g p.new.sr e p.new.mem p.result (p.ensures x.rest) d.next d.is in
+    let o = laws.goes_on f (completed_step (with_parts p.new.g d.next p.new.sr e x.rest)) p.new.mem p.auto.mem done refl in
     (omega (arith, c.loop-n-test.true), p.auto.mem ∙ i.1, o.0, o.1)
-
-pub loop-n-preserved-in-Done-summed : goal.loop-n-preserved-in-Done-summed
-loop-n-preserved-in-Done-summed c =
-    let x = c.loop-n in
-    let i = x.invariant in
-    let p = c.in_place in
-    let f = laws.fetched_at (laws.turned c.loop-n-test.true i.2 i.3) c.if-rest.false (sym c.load.ensures ∙ c.in-Ok.is) (c.row_by-row.ensures ∙ c.requires.1 c.in-Ok.op) in
-    let l = laws.again f p.new.g p.new.mem p.result (p.ensures x.rest.other (emac_of x.macsr x.mask x.acc)) c.in_default.is in
-    let s = c.summed in
-    let d = c.in-Done-summed in
-    let next = with_parts s.new.g d.next x.sr (emac_of d.now x.mask s.new.acc) x.rest in
-    let done = laws.in_unit_lem x.macsr x.mask x.acc l s.new.g s.new.acc s.result (s.ensures x.rest.other) d.next d.now d.is in
-    let o = laws.goes_on l (completed_step next) p.new.mem refl done refl in
-    (omega (arith, c.loop-n-test.true), p.auto.mem ∙ i.1, o.0, o.1)
-
-pub loop-n-preserved-in-Done-plain : goal.loop-n-preserved-in-Done-plain
-loop-n-preserved-in-Done-plain c =
-    let x = c.loop-n in
-    let i = x.invariant in
-    let p = c.in_place in
-    let f = laws.fetched_at (laws.turned c.loop-n-test.true i.2 i.3) c.if-rest.false (sym c.load.ensures ∙ c.in-Ok.is) (c.row_by-row.ensures ∙ c.requires.1 c.in-Ok.op) in
-    let l = laws.again f p.new.g p.new.mem p.result (p.ensures x.rest.other (emac_of x.macsr x.mask x.acc)) c.in_default.is in
-    let s = c.summed in
-    let l2 = laws.again-unit x.macsr x.mask x.acc l s.new.g s.new.acc s.result (s.ensures x.rest.other) c.in_default-summed.is in
-    let e = emac_of x.macsr x.mask s.new.acc in
-    let k = c.plain in
-    let d = c.in-Done-plain in
-    let next = with_parts k.new.g d.next d.now e x.rest in
-    let done = laws.in_place l2 k.new.g k.new.mem k.result k.ensures d.next d.now d.is in
-    let o = laws.goes_on l2 (completed_step next) k.new.mem k.auto.mem done refl in
-    (omega (arith, c.loop-n-test.true), k.auto.mem ∙ p.auto.mem ∙ i.1, o.0, o.1)
 
 pub returns-then-not-is_done : goal.returns-then-not-is_done
 returns-then-not-is_done c =
     let x = c.loop-n in
     let i = x.invariant in
-    let p = c.in_place in
     let f = laws.fetched_at (laws.turned c.loop-n-test.true i.2 i.3) c.if-rest.false (sym c.load.ensures ∙ c.in-Ok.is) (c.row_by-row.ensures ∙ c.requires.1 c.in-Ok.op) in
-    let l = laws.again f p.new.g p.new.mem p.result (p.ensures x.rest.other (emac_of x.macsr x.mask x.acc)) c.in_default.is in
-    let s = c.summed in
-    let l2 = laws.again-unit x.macsr x.mask x.acc l s.new.g s.new.acc s.result (s.ensures x.rest.other) c.in_default-summed.is in
-    let e = emac_of x.macsr x.mask s.new.acc in
-    let k = c.plain in
-    let l3 = laws.again l2 k.new.g k.new.mem k.result k.ensures c.in-Left.is in
+    let p = c.tried-done in
+    let l = laws.left f p.new.g p.new.sr (emac_of p.new.macsr x.mask p.new.acc) p.new.mem p.result (p.ensures x.rest) c.in_default.is in
     let r = c.performed-stepped in
-    let done = laws.performed l3 r.result r.new.mem _ c.assembled-held.ensures r.ensures in
-    rw c.ended-then-not-is_done.ensures (laws.stops-here l3 r.result r.new.mem done (sym c.is_done.ensures ∙ c.if-not-is_done.true))
+    let done = laws.performed l r.result r.new.mem _ c.assembled-held.ensures r.ensures in
+    rw c.ended-then-not-is_done.ensures (laws.stops-here l r.result r.new.mem done (sym c.is_done.ensures ∙ c.if-not-is_done.true))
 
 pub loop-n-preserved : goal.loop-n-preserved
 loop-n-preserved c =
     let x = c.loop-n in
     let i = x.invariant in
-    let p = c.in_place in
     let f = laws.fetched_at (laws.turned c.loop-n-test.true i.2 i.3) c.if-rest.false (sym c.load.ensures ∙ c.in-Ok.is) (c.row_by-row.ensures ∙ c.requires.1 c.in-Ok.op) in
-    let l = laws.again f p.new.g p.new.mem p.result (p.ensures x.rest.other (emac_of x.macsr x.mask x.acc)) c.in_default.is in
-    let s = c.summed in
-    let l2 = laws.again-unit x.macsr x.mask x.acc l s.new.g s.new.acc s.result (s.ensures x.rest.other) c.in_default-summed.is in
-    let e = emac_of x.macsr x.mask s.new.acc in
-    let k = c.plain in
-    let l3 = laws.again l2 k.new.g k.new.mem k.result k.ensures c.in-Left.is in
+    let p = c.tried-done in
+    let l = laws.left f p.new.g p.new.sr (emac_of p.new.macsr x.mask p.new.acc) p.new.mem p.result (p.ensures x.rest) c.in_default.is in
     let r = c.performed-stepped in
-    let done = laws.performed l3 r.result r.new.mem _ c.assembled-held.ensures r.ensures in
-    let o = laws.goes_on l3 r.result r.new.mem r.auto.mem done (sym c.is_done.ensures ∙ c.if-not-is_done.false) in (
+    let done = laws.performed l r.result r.new.mem _ c.assembled-held.ensures r.ensures in
+    let o = laws.goes_on l r.result r.new.mem r.auto.mem done (sym c.is_done.ensures ∙ c.if-not-is_done.false) in (
       omega (arith, c.loop-n-test.true),
-      r.auto.mem ∙ k.auto.mem ∙ p.auto.mem ∙ i.1,
+      r.auto.mem ∙ p.auto.mem ∙ i.1,
       rw (laws.parts r.result.cpu) o.0,
       rw (laws.parts r.result.cpu) o.1,
     )

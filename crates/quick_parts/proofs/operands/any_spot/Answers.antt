@@ -1,4 +1,3 @@
-use mathlib.Core.Path.{sym}
 use Rattle.quick_parts.proofs.operands.any_spot.Goals as goal
 
 pub returns-in-6 : goal.returns-in-6
@@ -6,6 +5,3 @@ returns-in-6 c = rw c.in-6.is (c.indexed_spot.ensures _)
 
 pub returns-in-7 : goal.returns-in-7
 returns-in-7 c = rw c.in-7.is (c.absolute_spot.ensures.1 _ _)
-
-pub returns-in_default : goal.returns-in_default
-returns-in_default c = c.spot.ensures _ (sym c.address.ensures)

@@ -1,8 +1,8 @@
-use mathlib.Core.Path.{sym, ◌∙◌}
 use Rattle.quick_parts.specs.Near.{at}
-use Rattle.quick_parts.proofs.OperandLaws.{loaded}
+use Rattle.quick_parts.proofs.OperandLaws.{spot_loads}
 use Rattle.quick_parts.proofs.operands.read_indexed.Goals as goal
 
-pub returns-in-Ok : goal.returns-in-Ok
-returns-in-Ok c =
-    let a = c.args in loaded a.z a.g.now a.mem.now a.pc a.op _ _ _ _ (rw c.if-op-ne6.false (at _ _ _ _ _ c.in-At.is (c.indexed_spot.ensures _))) (sym c.load.ensures ∙ c.in-Ok.is)
+pub returns : goal.returns
+returns c =
+    let a = c.args in
+    c.read_at.ensures _ (spot_loads a.z a.g.now a.mem.now a.pc a.op _ (rw c.if-op-ne6.false (at _ _ _ c.in_ok-indexed_spot.was (c.indexed_spot.ensures _))))
