@@ -161,6 +161,7 @@ class Contract:
         self.type, bodies = clauses(contract)
         given = re.findall(r"(\w+)\s*:\s*(&(?:'\w+ )?(mut\b)?)?", self.function.parameters)
         self.given = {name for name, reference, _ in given if not reference}
+        self.given |= set(re.findall(r"const (\w+):", self.function.generics))
         self.referred = {name for name, reference, _ in given if reference}
         self.lent = {name for name, _, mut in given if mut}
         if self.answer in self.given | self.referred:
@@ -168,7 +169,7 @@ class Contract:
         if re.fullmatch(r"<\w+: Read>", self.function.generics):
             self.kind = READER
             return self.reader(bodies)
-        if "<" in self.function.parameters or self.known.get("≡") != ("Rattle.std.specs.Prelude", "◌≡◌"):
+        if "<" in re.sub(r"\b(?:Option|Result)<[\w, ]*>", "", self.function.parameters) or self.known.get("≡") != ("Rattle.std.specs.Prelude", "◌≡◌"):
             raise Fault("a parameter holds a reference, or ≡ is not the library's")
         bodies = [bare(tree(body)) for body in bodies]
         if self.name(next(iter(split(bodies[0], "→")[-1]), "")) in set(AGREED) | FILLED:
@@ -244,7 +245,7 @@ class Contract:
         """A contract of the quick path, which may be for all of what the function is not given."""
         *front, equation = split(body, "→")
         binders = front[0] if front else []
-        forall = all(part[1:2] == [":"] and part[2:] in ALL for part in binders)
+        forall = all(":" in part and part[part.index(":") + 1 :] in ALL for part in binders)
         if not forall or front[1:] not in ([], [HYPOTHESES.get(self.function.path)]):
             raise Fault("its equation is under a hypothesis")
         left, right = self.sides(equation)
@@ -261,4 +262,4 @@ class Contract:
             if told != self.lent:
                 raise Fault(f"its equation says nothing of {' and '.join(sorted(self.lent - told))} at exit")
             right = right[:1] + right[2:]
-        self.determined(right, {part[0] for part in binders})
+        self.determined(right, {name for part in binders for name in part[: part.index(":")]})

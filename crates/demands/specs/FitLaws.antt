@@ -157,6 +157,9 @@ pub record QuotientFits (q : Quotient) : Type 0 where
 pub either-quotient : (b : Bool) (p q : Option Quotient) → IfSome p QuotientFits → IfSome q QuotientFits → IfSome (cond b p q) QuotientFits
 either-quotient b p q h k = either (λ r. IfSome r QuotientFits) b p q h k
 
+none-fits : IfSome None QuotientFits
+none-fits = tt
+
 pub quotient-long : (a b : ℕ) → IsLong a → IfSome (quotient a b) QuotientFits
 unfolding quotient
 quotient-long a b h =

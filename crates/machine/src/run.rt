@@ -54,8 +54,7 @@ fn advanced(top: &[u8], given: Cpu, mem: &mut [u8], budget: u32) -> Progress
     let mut acc = given.emac.acc;
     let mut rest = given;
     let mut vector: u8 = 0;
-    let mut n: u32 = 0;
-    while n < budget {
+    for n in 0..budget {
         if rest.stopped {
             let last = assembled(rest, g, pc, sr, macsr, mask, acc);
             return ended(Reply::Stopped, n, 0, last);
@@ -75,7 +74,6 @@ fn advanced(top: &[u8], given: Cpu, mem: &mut [u8], budget: u32) -> Progress
         if let Some(next) = done {
             pc = next;
             vector = 0;
-            n += 1;
             continue;
         }
         let held = assembled(rest, g, pc, sr, macsr, mask, acc);
@@ -93,10 +91,9 @@ fn advanced(top: &[u8], given: Cpu, mem: &mut [u8], budget: u32) -> Progress
         mask = next.emac.mask;
         acc = next.emac.acc;
         vector = stepped.vector;
-        n += 1;
     }
     let last = assembled(rest, g, pc, sr, macsr, mask, acc);
-    ended(Reply::Done, n, vector, last)
+    ended(Reply::Done, budget, vector, last)
 }
 
 // As many steps as the budget says, or up to one that is refused: the reply, the count and the state.

@@ -66,7 +66,7 @@ number_at m a z = number_in (load m a z)
 -- ---- a number that is stored: what the store answers, and storage after it
 
 abbrev pub taken : Result ℕ Fault → Result Unit Fault
-taken (Ok at) = (Ok tt)
+taken (Ok at) = Ok tt
 taken (Err x) = Err x
 
 abbrev pub stored_in : Storage → Size → ℕ → Result ℕ Fault → Storage
@@ -92,7 +92,7 @@ first_fault (Ok at) rest = rest
 first_fault (Err x) rest = Err x
 
 unfoldable pub access_many : ℕ → Memory → ℕ → ℕ → Result Unit Fault
-access_many zero m mask at = (Ok tt)
+access_many zero m mask at = Ok tt
 access_many (suc left) m mask at =
     cond (eqb (mask % 2) 1)
     (first_fault (access m at 4) (access_many left m (mask / 2) (plus at 4)))

@@ -28,10 +28,4 @@ pub const MASK_AT: usize = 91;
 
 pub const ACC0_AT: usize = 95;
 
-pub const ACC1_AT: usize = 103;
-
-pub const ACC2_AT: usize = 111;
-
-pub const ACC3_AT: usize = 119;
-
 pub const STOPPED_AT: usize = 127;

@@ -18,7 +18,7 @@ pub fn bit(b: bool) -> u32
 }
 
 // A flag of a weight.
-pub fn weighed(b: bool, w: u32) -> u32
+fn weighed(b: bool, w: u32) -> u32
     ensures { (result ≡ bit_of b * w) × (result ≤ w) }
 {
     if b { w } else { 0 }

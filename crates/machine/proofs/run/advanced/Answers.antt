@@ -1,11 +1,13 @@
 -- `machine::run::advanced` meets its contract. A turn of the loop knows more at each of its parts: its word and row, and then that the
 -- three ways in place left the word as it was.
 -- Assumes nothing.
-use Rattle.std.proofs.Common.{◌∙◌, refl, sym, arith, rules}
+use Rattle.std.proofs.Common.{ℕ, ◌≡◌, ◌∙◌, subst, refl, sym, arith, rules}
 use Rattle.manual.specs.Registers.{with_parts}
 use Rattle.manual.specs.Emac.{emac_of}
 use Rattle.manual.specs.Lent.{lent}
+use Rattle.manual.specs.declared.Reply.TheVariants.{Done}
 use Rattle.machine.specs.Completed.{completed_step}
+use Rattle.machine.specs.Advance.{advance, ended_as, progress}
 use Rattle.machine.proofs.RunLaws as laws
 use Rattle.machine.proofs.run.advanced.Goals as goal
 
@@ -65,5 +67,8 @@ loop-n-preserved c =
 pub returns : goal.returns
 returns c =
     let x = c.loop-n in
+    let last = with_parts x.g x.pc x.sr (emac_of x.macsr x.mask x.acc) x.rest in
+    let e : x.n ≡ c.args.budget = omega (arith, x.invariant.0, c.loop-n-test.false) in
     rw (c.ended-2.ensures, c.assembled-last-2.ensures)
-    (laws.ends _ x.n x.vector _ (with_parts x.g x.pc x.sr (emac_of x.macsr x.mask x.acc) x.rest) (lent x.mem) x.invariant.3 c.loop-n-test.false)
+    (subst (λ (k : ℕ). advance (ended_as Done k x.vector last) x.mem ≡ progress c.args.budget 0 0 c.args.given (lent c.args.mem.now)) e
+    (laws.ends _ x.n x.vector _ last (lent x.mem) x.invariant.3 c.loop-n-test.false))

@@ -12,6 +12,3 @@ invariant-loop-n l =
     (l.n ≤ l.budget) × (length l.mem ≡ length l.initial.mem)
     × (is_done (first_refusal (with_parts l.g l.pc l.sr (emac_of l.macsr l.mask l.acc) l.rest) (lent l.mem)) ≡ true)
     × (progress (l.budget - l.n) l.n l.vector (with_parts l.g l.pc l.sr (emac_of l.macsr l.mask l.acc) l.rest) (lent l.mem) ≡ progress l.budget 0 0 l.initial.rest (lent l.initial.mem))
-
-abbrev pub decreases-loop-n : goal.decreases-loop-n
-decreases-loop-n l = l.budget - l.n
