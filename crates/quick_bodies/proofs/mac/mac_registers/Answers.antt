@@ -9,4 +9,3 @@ pub returns : goal.returns
 unfolding in_unit mac_registers acting no_write written
 returns c = λ sr e.
     rw (c.product_by.ensures, kept-status sr, ← c.general-rx.ensures, ← c.general-ry.ensures, c.plus.ensures)
-
