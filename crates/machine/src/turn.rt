@@ -42,7 +42,7 @@ pub(crate) fn plain(
 }
 
 // By the two parts of the quick path and then by the plain engine, in place: the next address; none where it is left, with nothing changed.
-// It is put into the loop, so that the loop has one place where a step in place ends; a chain of `or_else` with closures takes up to 4
+// It is put into the loop, so that the loop has one place where a step in place ends; a chain of `or_else` with closures takes two to five
 // instructions more a step (docs/PERFORMANCE.md).
 #[inline(always)]
 pub(crate) fn tried(
