@@ -5,7 +5,7 @@ The outcome is the answer, `result`, and all that is lent `&mut` as it is at exi
     ensures { outcome result mem.new ≡ step_of cpu (lent mem.old) }
 
 - Its left side has the answer, whole or in all its fields, and everything lent at exit, put together by definitions that keep each
-  of their arguments in a field of a record, or from which the argument can be told (KEPT below). So nothing of the outcome is left out, and nothing is lost on the way.
+  of their arguments in a field of a record. So nothing of the outcome is left out, and nothing is lost on the way.
 - Its right side has names that the file brings in, parameters, and references at entry: neither the answer nor anything at exit.
   So any two outcomes that it allows are equal (demands/specs/Determined.antt).
 
@@ -37,10 +37,6 @@ KINDS = BOUNDS, EACH, LEFT, READER = "an equation, and bounds", "an equation eac
 AGREED = {"Effects.after": "Effects.agreed", "Units.after_mac": "Units.agreed_mac"}
 # an answer filled up from a definition equals that definition
 FILLED = {"Near.spotted", "Near.as_read", "Near.controlled_at"}
-# of the kit's types what tells a value apart: a text's unused room cannot be read
-KIT = {"ArrayString": {".bytes"}}
-# what keeps its argument and is no record: image/specs/TextLaws.text-kept
-KEPT = {"Image.text_of": 1}
 # what a contract of the quick path may be said for all of, types that have values
 ALL = ["Memory"], ["ℕ"], ["Emac"], ["List", "ℕ"]
 # the one hypothesis in a contract: of the registers, of which the function is given one
@@ -114,8 +110,6 @@ def fields(function, name):
     for file in glob.glob(f"crates/{crate}/src/**/*.rt", recursive=True):
         for body in re.findall(rf"\bstruct {re.escape(name)} \{{([^}}]*)\}}", open(file).read()):
             return {"." + field for field in re.findall(r"(\w+)\s*:", body)}
-        for kit in re.findall(rf"\bpub type {re.escape(name)} = (\w+)\b", open(file).read()):
-            return KIT.get(kit, set())
     return set()
 
 
@@ -205,7 +199,7 @@ class Contract:
             return {field.group(1)}
         if len(term) == 1 and (lent := re.fullmatch(r"(\w+)\.(now|old|new)", term[0])) and self.at(lent.group(1), lent.group(2)):
             return set(term) if lent.group(2) == "new" else set()
-        if not isinstance(term[0], str) or len(term) - 1 not in (kept(*self.known.get(term[0], ("", ""))), KEPT.get(self.name(term[0]))):
+        if not isinstance(term[0], str) or kept(*self.known.get(term[0], ("", ""))) != len(term) - 1:
             raise Fault(f"its left side loses something: {' '.join(words(term))}")
         return set().union(*(self.told([part]) for part in term[1:]))
 

@@ -12,5 +12,6 @@ fn main(rt: HostRuntime) -> io::Result<()> {
     let mut input = [0u8; 65_536];
     let n = read_full(&mut rt.stdin(), &mut input)?;
     let mut mem = [0u8; 49_152];
-    rt.print(answer(&input[..n], &mut mem))
+    let text = answer(&input[..n], &mut mem);
+    rt.write_all(&text.bytes[..text.len])
 }

@@ -21,5 +21,6 @@ fn main(rt: HostRuntime) -> io::Result<()> {
     let mut input = input_buffer();
     let n = read_full(&mut rt.stdin(), &mut input)?;
     let mut mem = [0u8; 49_152];
-    rt.print(answer(&input[..n], &mut mem))
+    let text = answer(&input[..n], &mut mem);
+    rt.write_all(&text.bytes[..text.len])
 }

@@ -1,17 +1,16 @@
 // What the program `coresrecord` does with the bytes that it was given.
-ghost use Rattle.std.specs.Prelude.{◌≡◌, ◌++◌};
-ghost use Rattle.manual.specs.Image.{text_of};
+ghost use Rattle.std.specs.Prelude.{◌≡◌, [], ◌∷◌, ◌++◌};
+ghost use Rattle.manual.specs.Image.{printed, text_of};
 ghost use Rattle.instructions.specs.ImageRun.{image_ran};
 ghost use Rattle.srecord.specs.TextRun.{text_state, text_answer, text_ran, text_run};
 
 use image::Text;
 use image::print::{answer_text, run_text};
-use itoa::Buffer;
 use machine::run::run;
 use manual::{Cpu, Reply};
 use memory::long_at;
 use srecord::TextReply;
-use srecord_line::replies::{text_done, text_number};
+use srecord_line::replies::text_done;
 use srecord_read::read::read;
 use state::fresh::fresh;
 use state::status::admitted;
@@ -36,18 +35,32 @@ fn text_state(head: &[u8; TEXT_AT], start: u32) -> Cpu
     with_sr(with_pc(cpu, start), sr)
 }
 
-fn refused_text(reply: TextReply) -> Text
-    ensures { result.bytes ≡ text_answer reply }
+// "answer 1" and one digit more.
+fn answer_from_ten(last: u8) -> Text
+    ensures { printed result.bytes result.len ≡ text_of (97 ∷ 110 ∷ 115 ∷ 119 ∷ 101 ∷ 114 ∷ 32 ∷ 49 ∷ last ∷ 10 ∷ []) }
 {
-    let mut text = Text::new();
-    text.push_str("answer ");
-    text.push_str(Buffer::new().format(text_number(reply)));
-    text.push('\n');
-    text
+    let mut bytes = [0u8; 256];
+    bytes[..8].copy_from_slice(b"answer 1");
+    bytes[8] = last;
+    bytes[9] = b'\n';
+    Text { bytes, len: 10 }
+}
+
+fn refused_text(reply: TextReply) -> Text
+    ensures { printed result.bytes result.len ≡ text_of (text_answer reply) }
+{
+    match reply {
+        TextReply::Done => answer_text(Reply::Done),
+        TextReply::TooLong => answer_text(Reply::TooLong),
+        TextReply::NotInside => answer_text(Reply::NotInside),
+        TextReply::Malformed => answer_from_ten(b'0'),
+        TextReply::WrongSum => answer_from_ten(b'1'),
+        TextReply::NoRoom => answer_from_ten(b'6'),
+    }
 }
 
 fn read_and_run(head: &[u8; TEXT_AT], text: &[u8], mem: &mut [u8]) -> Text
-    ensures { image_ran (text_of result.bytes) mem.new ≡ text_ran (head.now ++ text.now) mem.old }
+    ensures { image_ran (printed result.bytes result.len) mem.new ≡ text_ran (head.now ++ text.now) mem.old }
 {
     let found = read(text, mem);
     if !text_done(found.reply) {
@@ -61,7 +74,7 @@ fn read_and_run(head: &[u8; TEXT_AT], text: &[u8], mem: &mut [u8]) -> Text
 // The text of the run of S-records, or the first line alone where they, or what stands before them, are refused.
 // Memory is read into as it is: the program lends zeros.
 pub fn answer(input: &[u8], mem: &mut [u8]) -> Text
-    ensures { image_ran (text_of result.bytes) mem.new ≡ text_run input.now mem.old }
+    ensures { image_ran (printed result.bytes result.len) mem.new ≡ text_run input.now mem.old }
 {
     let Some((head, text)) = input.split_first_chunk::<TEXT_AT>() else {
         return answer_text(Reply::WrongLength);

@@ -1,3 +1,4 @@
 pub mod HeadLaws
 pub mod Loads
+pub mod Texts
 pub mod TextLaws

@@ -1,5 +1,5 @@
--- What is printed lies in the bytes that it is handed back in, so that a program can lend just the text; and the digits that the
--- library prints are the definition's. Assumes nothing.
+-- What is printed lies in the bytes that it is handed back in, so that a program can lend just the text; and the digits that std
+-- prints of a number are the definition's. Assumes nothing.
 use Rattle.std.specs.Prelude.{ℕ, ◌-◌, ◌%◌, ◌^◌, ◌<◌, ◌≤◌, ◌≡◌, Bool, true, false, cond, List, ◌++◌, length, replicate}
 use Rattle.std.proofs.Math.Seq.{take-append_seam}
 use Rattle.std.proofs.Common.{ap, sym, ◌∙◌, arith, length-append}

@@ -4,7 +4,6 @@
 pub mod file;
 pub mod print;
 
-use arrayvec::ArrayString;
 use manual::Cpu;
 
 // What an image file that is accepted says: the budget and the state.
@@ -14,5 +13,9 @@ pub struct Loaded {
     pub cpu: Cpu,
 }
 
-// What is printed: its bytes lie in the value itself, since the programs use no heap.
-pub type Text = ArrayString<256>;
+// A text of `len` bytes, and zeros after it.
+#[derive(Clone, Copy)]
+pub struct Text {
+    pub bytes: [u8; 256],
+    pub len: usize,
+}

@@ -1,75 +1,102 @@
-// What a run of an image prints. `write!` makes none of it: its contract leaves open whether it answers Ok, and a text cannot fail.
-ghost use Rattle.std.specs.Prelude.{◌≡◌, [], ◌∷◌, ◌++◌, ◌+◌, ◌*◌, ◌≤◌, ◌<◌, length};
-ghost use Rattle.arrayvec.specs.ArrayString.{array_string_len};
-ghost use Rattle.manual.specs.Image.{hex, longs, newline, answer_line, steps_line, run_text};
+// What a run of an image prints.
+ghost use Rattle.std.specs.Prelude.{◌≡◌, [], ◌∷◌, ◌++◌, ◌<◌, length};
+ghost use Rattle.manual.specs.Image.{digit as digit_of, hex, decimal, longs, newline, answer_line, steps_line, run_text, printed, text_of};
+ghost use Rattle.image.specs.Texts.{put as put_of, appended};
 
 use crate::Text;
-use itoa::Buffer;
 use manual::{Cpu, Reply};
 use state::replies::number_of;
 
+// A full text stays as it is; none that is made here gets full.
+#[tactic(auto, unfolding(crate::specs::Texts::put))]
+fn put(text: &mut Text, b: u8)
+    ensures { text.new ≡ put_of text.old b }
+{
+    if text.len < 256 {
+        text.bytes[text.len] = b;
+        text.len += 1;
+    }
+}
+
+fn put_all(text: &mut Text, bytes: &[u8])
+    ensures { text.new ≡ appended text.old bytes.now }
+{
+    for b in bytes {
+        put(text, *b);
+    }
+}
+
+#[tactic(auto, unfolding(manual::specs::Image::digit))]
+fn digit(d: u32) -> u8
+    requires { d < 16 }
+    ensures { result ≡ digit_of d }
+{
+    char::from_digit(d, 16).unwrap() as u8
+}
+
 // The low digits of a number to the base 16, as many as are asked for.
-#[tactic(auto, unfolding(manual::specs::Image::hex, manual::specs::Image::digit))]
 fn put_hex(text: &mut Text, digits: usize, v: u32)
-    requires { array_string_len text.old + digits ≤ 256 }
-    ensures bytes { text.new.bytes ≡ text.old.bytes ++ hex digits v }
-    ensures len { array_string_len text.new ≡ array_string_len text.old + digits }
+    ensures { text.new ≡ appended text.old (hex digits v) }
 {
     if digits > 0 {
         put_hex(text, digits - 1, v / 16);
-        text.push(char::from_digit(v % 16, 16).unwrap());
+        put(text, digit(v % 16));
     }
+}
+
+fn put_decimal(text: &mut Text, v: u32)
+    ensures { text.new ≡ appended text.old (decimal 10 v) }
+{
+    if v >= 10 {
+        put_decimal(text, v / 10);
+    }
+    put(text, digit(v % 10));
 }
 
 // A line of one number: "answer", "pc", "sr", "other", "macsr".
 fn hex_line(text: &mut Text, name: &str, digits: usize, v: u32)
-    requires { array_string_len text.old + (length name.now + digits + 1) ≤ 256 }
-    ensures bytes { text.new.bytes ≡ text.old.bytes ++ (name.now ++ (hex digits v ++ (newline ∷ []))) }
-    ensures len { array_string_len text.new ≡ array_string_len text.old + (length name.now + digits + 1) }
+    ensures { text.new ≡ appended text.old (name.now ++ (hex digits v ++ (newline ∷ []))) }
 {
-    text.push_str(name);
+    put_all(text, name.as_bytes());
     put_hex(text, digits, v);
-    text.push('\n');
+    put(text, b'\n');
 }
 
 // A line of registers: "d" and "a".
 fn registers_line(text: &mut Text, name: &str, registers: &[u32])
-    requires { array_string_len text.old + (length name.now + 9 * length registers.now + 1) ≤ 256 }
-    ensures bytes { text.new.bytes ≡ text.old.bytes ++ (name.now ++ (longs registers.now 0 (length registers.now) ++ (newline ∷ []))) }
-    ensures len { array_string_len text.new ≡ array_string_len text.old + (length name.now + 9 * length registers.now + 1) }
+    ensures { text.new ≡ appended text.old (name.now ++ (longs registers.now 0 (length registers.now) ++ (newline ∷ []))) }
 {
-    text.push_str(name);
+    put_all(text, name.as_bytes());
     for v in registers {
-        text.push(' ');
+        put(text, b' ');
         put_hex(text, 8, *v);
     }
-    text.push('\n');
+    put(text, b'\n');
 }
 
 fn steps_line(text: &mut Text, count: u32)
-    requires { array_string_len text.old + 17 ≤ 256 }
-    ensures bytes { text.new.bytes ≡ text.old.bytes ++ steps_line count }
-    ensures len { array_string_len text.new ≤ array_string_len text.old + 17 }
+    ensures { text.new ≡ appended text.old (steps_line count) }
 {
-    text.push_str("steps ");
-    text.push_str(Buffer::new().format(count));
-    text.push('\n');
+    put_all(text, b"steps ");
+    put_decimal(text, count);
+    put(text, b'\n');
 }
 
 // The text of a refused file: the answer's line.
-#[tactic(auto, unfolding(manual::specs::Image::answer_line, manual::specs::Image::hex))]
 pub fn answer_text(reply: Reply) -> Text
-    ensures { result.bytes ≡ answer_line reply }
+    ensures { printed result.bytes result.len ≡ text_of (answer_line reply) }
 {
-    let mut text = Text::new();
+    let mut text = Text {
+        bytes: [0; 256],
+        len: 0,
+    };
     hex_line(&mut text, "answer ", 1, number_of(reply));
     text
 }
 
 // The text of a run: answer, steps, PC, SR, registers, the other pointer and MACSR.
-#[tactic(auto, unfolding(manual::specs::Image::answer_line))]
 pub fn run_text(reply: Reply, count: u32, cpu: Cpu) -> Text
-    ensures { result.bytes ≡ run_text reply count cpu }
+    ensures { printed result.bytes result.len ≡ text_of (run_text reply count cpu) }
 {
     let mut text = answer_text(reply);
     steps_line(&mut text, count);

@@ -1,11 +1,11 @@
--- The digits are the count's.
-use Rattle.std.proofs.Common.{lit<, arith, append_assoc}
+-- `image::print::steps_line` meets its contract. Assumes nothing.
+use Rattle.std.proofs.Common.{sym, [], ◌∷◌}
 use Rattle.manual.specs.Image.{steps_line}
-use Rattle.image.specs.TextLaws.{decimal-is}
+use Rattle.image.proofs.PrintLaws.{appended-line}
 use Rattle.image.proofs.print.steps_line.Goals as goal
 
-pub returns-clause-bytes : goal.returns-clause-bytes
+pub returns : goal.returns
 unfolding steps_line
-returns-clause-bytes c =
-    rw (c.push.ensures.ascii (lit< tt), c.push_str-2.ensures.bytes, c.format.ensures.text, decimal-is c.args.count (omega arith), c.push_str.ensures.bytes)
-    (simp append_assoc)
+returns c =
+    rw (c.put.ensures, c.put_decimal.ensures, c.put_all.ensures)
+    (sym (appended-line c.args.text.now (115 ∷ 116 ∷ 101 ∷ 112 ∷ 115 ∷ 32 ∷ []) _ _))
