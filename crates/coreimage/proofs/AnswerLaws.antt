@@ -1,16 +1,15 @@
 -- A file that is refused, and one that is run, and what is printed of it. Assumes nothing.
 use Rattle.std.proofs.Common.{◌≡◌, ℕ, ◌≤◌, Bool, true, false, cond, List, length, take, length-take-le, Ok, Err, refl, sym, ap}
 use Rattle.manual.specs.declared.Cpu.{Cpu}
+use Rattle.manual.specs.declared.Loaded.{Loaded}
 use Rattle.manual.specs.declared.Ran.{Ran}
 use Rattle.manual.specs.declared.Reply.{Reply}
 use Rattle.manual.specs.Reply.{is_done}
 use Rattle.manual.specs.Lent.{lent}
-use Rattle.manual.specs.Image.{Image, Printed, printed, load_image, answer_line, run_text, text_of}
+use Rattle.manual.specs.Image.{Image, ImageRead, Printed, printed, load_image, image_read, loaded, read_of, answer_line, run_text, text_of}
 use Rattle.manual.specs.Memory.{Storage}
 use Rattle.instructions.specs.Run.{run_outcome, run}
 use Rattle.instructions.specs.ImageRun.{image_ran, image_run, ran_text}
-use Rattle.image.specs.declared.Loaded.{Loaded}
-use Rattle.image.specs.Loads.{ImageRead, image_read, loaded, read_of}
 use Rattle.image.specs.TextLaws.{either_in}
 
 ok-is : (d : Bool) (n : Reply) (b : ℕ) (s : Cpu) (l : Loaded) → Ok l ≡ cond d (Ok (record { budget = b; cpu = s })) (Err n) → (d ≡ true) × (b ≡ l.budget) × (s ≡ l.cpu)

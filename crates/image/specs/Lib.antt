@@ -1,4 +1,3 @@
 pub mod HeadLaws
-pub mod Loads
 pub mod Texts
 pub mod TextLaws

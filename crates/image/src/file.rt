@@ -1,12 +1,10 @@
 // An image file, read into a memory and a state.
 ghost use Rattle.std.specs.Prelude.{◌≡◌, ◌-◌, ◌≤◌, ◌++◌, false, length, replicate, take, drop, IfOk, IfErr};
-ghost use Rattle.manual.specs.Image.{image_memory, program_at, image_state, image_reply, load_image};
+ghost use Rattle.manual.specs.Image.{image_memory, program_at, image_state, image_reply, load_image, image_read, read_of};
 ghost use Rattle.manual.specs.Reply.{is_done};
-ghost use Rattle.image.specs.Loads.{image_read, read_of};
 
-use crate::Loaded;
 use manual::block_places::{HEAD_BYTES, LENGTH_AT, VERSION_AT};
-use manual::{Cpu, Reply};
+use manual::{Cpu, Loaded, Reply};
 use memory::long_at;
 use state::fresh::fresh;
 use state::status::admitted;

@@ -4,14 +4,7 @@
 pub mod file;
 pub mod print;
 
-use manual::Cpu;
-
-// What an image file that is accepted says: the budget and the state.
-#[derive(Clone, Copy)]
-pub struct Loaded {
-    pub budget: u32,
-    pub cpu: Cpu,
-}
+pub use manual::Loaded;
 
 // A text of `len` bytes, and zeros after it.
 #[derive(Clone, Copy)]

@@ -1,9 +1,9 @@
 -- Image files and what a run of one prints. An image is version 1, four bytes that say how many follow them, the program
 -- counter, A7, the status register, the budget, and the bytes that go to address 0 of 49,152 zeroed ones.
-use Rattle.std.specs.Prelude.{ℕ, zero, suc, ◌+◌, ◌-◌, ◌/◌, ◌%◌}
+use Rattle.std.specs.Prelude.{ℕ, zero, suc, ◌+◌, ◌-◌, ◌/◌, ◌%◌, Result, Ok, Err}
 use mathlib.Core.{Bool.cond, Bool.◌&&◌, List.List, List.[], List.◌∷◌, List.◌++◌}
 use lib.{Dec.eqb, Dec.ltb, Dec.leb, ListN.length, ListN.get_or, ListN.drop, ListN.replicate}
-use Rattle.manual.specs.declared.{Cpu.Cpu, Reply.Reply, Reply.TheVariants.Done, Reply.TheVariants.NotAdmitted, Reply.TheVariants.WrongVersion, Reply.TheVariants.WrongLength}
+use Rattle.manual.specs.declared.{Cpu.Cpu, Loaded.Loaded, Reply.Reply, Reply.TheVariants.Done, Reply.TheVariants.NotAdmitted, Reply.TheVariants.WrongVersion, Reply.TheVariants.WrongLength}
 use Rattle.manual.specs.{Registers.with_address, Registers.with_pc, Registers.with_sr, Memory.Storage, Memory.value_at, Admitted.admitted, Reply.number_of, Reply.is_done, Block.fresh, Block.version_at, Block.length_at, Block.head_bytes}
 
 -- ---- the file
@@ -73,6 +73,21 @@ unfoldable pub load_image : List ℕ → Storage → Image
 load_image f b =
     let n : Reply = image_reply f b in
     cond (is_done n) (image n (image_budget f) (image_state f) (image_bytes f)) (not_loaded n b)
+
+-- what a read of a file answers: the answer, and storage after it
+pub record ImageRead : Type 0 where
+  pub answer : Result Loaded Reply
+  pub storage : Storage
+
+abbrev pub image_read : Result Loaded Reply → Storage → ImageRead
+image_read r b = record { answer = r; storage = b }
+
+-- the budget and the state of what was read, or the reply of what was refused
+unfoldable pub loaded : Image → Result Loaded Reply
+loaded i = cond (is_done i.reply) (Ok (record { budget = i.budget; cpu = i.cpu })) (Err i.reply)
+
+unfoldable pub read_of : Image → ImageRead
+read_of i = image_read (loaded i) i.storage
 
 -- ---- the text, as bytes
 

@@ -216,6 +216,13 @@ pub struct Ran {
     pub cpu: Cpu,
 }
 
+// What an image file that is accepted says: the budget and the state.
+#[derive(Clone, Copy)]
+pub struct Loaded {
+    pub budget: u32,
+    pub cpu: Cpu,
+}
+
 // What a question of the state answers: the reply and the number. No Result, for a refusal has a number too, 0 (Exceptions.told).
 #[derive(Clone, Copy)]
 pub struct Told {

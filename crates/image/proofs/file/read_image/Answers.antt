@@ -1,8 +1,7 @@
 -- `image::file::read_image` meets its contract. Assumes nothing.
 use Rattle.std.proofs.Common.{lit≤, length-drop}
 use Rattle.std.proofs.lemmas.Result.{err_from_is_err_and}
-use Rattle.manual.specs.Image.{load_image, image_bytes}
-use Rattle.image.specs.Loads.{loaded, read_of}
+use Rattle.manual.specs.Image.{load_image, image_bytes, loaded, read_of}
 use Rattle.image.proofs.FileLaws.{head-same, state-same}
 use Rattle.image.proofs.file.read_image.Goals as goal
 
