@@ -7,9 +7,17 @@ pub mod replies;
 
 use hex::HexBytes;
 
-// What a line is to its reader: data by its address and its bytes, the end by the start address, or nothing that counts.
+// What a line is to its reader: data by its address and the count of its bytes, the end by the start address, or nothing that counts.
+#[derive(Clone, Copy)]
+pub enum Record {
+    Data(u32, usize),
+    End(u32),
+    Skipped,
+}
+
+// The same with the bytes themselves. `HexBytes` cannot be copied, and lies in the line; a `Record` is free of both.
 #[derive(Drop)]
-pub enum Record<'a> {
+enum Found<'a> {
     Data(u32, HexBytes<'a>),
     End(u32),
     Skipped,

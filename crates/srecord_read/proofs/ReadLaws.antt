@@ -134,7 +134,7 @@ clear_end (x ∷ t) g = rw (lines_none (x ∷ t) g, ended-none x t g, ne_eqb (le
 -- ---- what a line brings, by its record
 
 abbrev pub record_judged : ℕ → Result Record LineError → Result (Option ℕ) TextReply
-record_judged n (Ok (records.Data a bs)) = cond (fits_by n a (length bs)) (Ok None) (Err replies.NotInside)
+record_judged n (Ok (records.Data a count)) = cond (fits_by n a count) (Ok None) (Err replies.NotInside)
 record_judged n (Ok (records.End a)) = Ok (Some a)
 record_judged n (Ok records.Skipped) = Ok None
 record_judged n (Err e) = Err (reply_of e)
@@ -150,12 +150,12 @@ by_record n r s e = ap (record_judged n) e ∙ go s
     go Malformed = refl
     go WrongSum = refl
 
-module _ (n a : ℕ) (bs : List ℕ) (s : Said) (e : Ok (records.Data a bs) ≡ record_of s) where
-  pub by_inside : fits_by n a (length bs) ≡ true → Ok None ≡ judged n s
-  by_inside f = rw f at (by_record n (Ok (records.Data a bs)) s e)
+module _ (n a count : ℕ) (s : Said) (e : Ok (records.Data a count) ≡ record_of s) where
+  pub by_inside : fits_by n a count ≡ true → Ok None ≡ judged n s
+  by_inside f = rw f at (by_record n (Ok (records.Data a count)) s e)
 
-  pub by_outside : fits_by n a (length bs) ≡ false → Err replies.NotInside ≡ judged n s
-  by_outside f = rw f at (by_record n (Ok (records.Data a bs)) s e)
+  pub by_outside : fits_by n a count ≡ false → Err replies.NotInside ≡ judged n s
+  by_outside f = rw f at (by_record n (Ok (records.Data a count)) s e)
 
 -- ---- and for the text
 

@@ -15,8 +15,8 @@ fn judge(line: &[u8], size: usize) -> Result<Option<u32>, TextReply>
     ensures { result ≡ judged size (said_of line.now) }
 {
     match said(line)? {
-        Record::Data(a, bytes) => {
-            if inside(size, a, bytes.len()) {
+        Record::Data(a, n) => {
+            if inside(size, a, n) {
                 Ok(None)
             } else {
                 Err(TextReply::NotInside)

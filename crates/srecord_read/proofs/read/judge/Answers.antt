@@ -14,12 +14,12 @@ returns-in_err-a c =
 pub returns-then-inside : goal.returns-then-inside
 returns-then-inside c =
     let d = c.in-Data in
-    by_inside c.args.size d.a d.bytes (said_of c.args.line.now) (rw d.is at c.in_ok-a.ensures) (rw c.len.ensures at (sym c.if-inside.ensures))
+    by_inside c.args.size d.a d.n (said_of c.args.line.now) (rw d.is at c.in_ok-a.ensures) (sym c.if-inside.ensures)
 
 pub returns-else-inside : goal.returns-else-inside
 returns-else-inside c =
     let d = c.in-Data in
-    by_outside c.args.size d.a d.bytes (said_of c.args.line.now) (rw d.is at c.in_ok-a.ensures) (rw c.len.ensures at (sym c.if-inside.ensures))
+    by_outside c.args.size d.a d.n (said_of c.args.line.now) (rw d.is at c.in_ok-a.ensures) (sym c.if-inside.ensures)
 
 pub returns-in-End : goal.returns-in-End
 returns-in-End c = by_record c.args.size (Ok (records.End c.in-End.start)) (said_of c.args.line.now) (rw c.in-End.is at c.in_ok-a.ensures)
