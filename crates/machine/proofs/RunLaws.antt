@@ -19,6 +19,7 @@ use Rattle.manual.specs.declared.Stepped.{Stepped}
 use Rattle.manual.specs.Registers.{with_parts}
 use Rattle.manual.specs.Memory.{Storage, Memory, load}
 use Rattle.manual.specs.Change.{refuse, refused}
+use Rattle.manual.specs.Emac.{emac_of}
 use Rattle.manual.specs.Reply.{Outcome, outcome, completed, unchanged, refusal, is_done, fault_reply}
 use Rattle.manual.specs.Admitted.{admitted}
 use Rattle.manual.specs.Lent.{Lent, memory_of, lent_on, first_refusal}
@@ -31,6 +32,8 @@ use Rattle.machine.specs.Advance.{Advance, advance, ended_as, progress}
 use Rattle.rows.specs.RowLaws.{of_row_lem}
 use Rattle.state.specs.FirstLaws.{first-admitted, first-kept}
 use Rattle.machine.specs.KeptLaws.{perform-admitted}
+use Rattle.quick_parts.specs.Effects.{after as effected, agreed}
+use Rattle.quick_bodies.specs.Units.{after_mac, agreed_mac}
 use Rattle.machine.proofs.TurnLaws as turns
 
 -- ---- a run over a step, which stays shut
@@ -182,6 +185,27 @@ module _ {b k v : ℕ} {whole : Advance} {g : List ℕ} {pc sr : ℕ} {e : Emac}
           word = rw o t.word;
           is-row = t.is-row;
         }
+
+  -- the same of a part of the quick path, and of the plain engine
+  module _ (g' : List ℕ) (sr' : ℕ) (m' : Storage) (r : Option ℕ) (h : effected r sr' g' m' ≡ agreed r c sr g (memory_of l)) where
+    pub again : r ≡ None → Fetched b k v whole g' pc sr' e rest (lent_on l m') op row
+    again = left g' sr' e m' r (turns.in_place row pc rest.other op rest g sr e l.storage g' sr' m' r h)
+
+    pub in_place : (pc' : ℕ) → r ≡ Some pc' → completed (with_parts g' pc' sr' e rest) 0 m' ≡ step here l
+    in_place = in_turn g' sr' e m' r (turns.in_place row pc rest.other op rest g sr e l.storage g' sr' m' r h)
+
+-- in the unit: the same, of what leaves storage as it is
+module _ {b k v : ℕ} {whole : Advance} {g : List ℕ} {pc sr : ℕ} {rest : Cpu} {l : Lent} {op row : ℕ} (macsr mask : ℕ) (acc : List ℕ)
+    (t : Fetched b k v whole g pc sr (emac_of macsr mask acc) rest l op row) (g' : List ℕ) (macsr' : ℕ) (acc' : List ℕ) (r : Option ℕ)
+    (h : after_mac r sr macsr' mask acc' g' ≡ agreed_mac r (c t) sr (emac_of macsr mask acc) g) where
+  abbrev unit : turns.Turn row pc rest.other op rest r g sr (emac_of macsr mask acc) l.storage g' sr (emac_of macsr' mask acc') l.storage
+  unit = turns.in_unit row pc rest.other op rest g sr macsr mask acc l.storage g' macsr' acc' r h
+
+  pub again-unit : r ≡ None → Fetched b k v whole g' pc sr (emac_of macsr' mask acc') rest l op row
+  again-unit = left t g' sr (emac_of macsr' mask acc') l.storage r unit
+
+  pub in_unit_lem : (pc' : ℕ) → r ≡ Some pc' → completed (with_parts g' pc' sr (emac_of macsr' mask acc') rest) 0 l.storage ≡ step (here t) l
+  in_unit_lem = in_turn t g' sr (emac_of macsr' mask acc') l.storage r unit
 
 -- ---- the definition's run
 
