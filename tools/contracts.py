@@ -154,6 +154,7 @@ class Contract:
     def read(self, contract):
         self.type, bodies = clauses(contract)
         given = re.findall(r"(\w+)\s*:\s*(&(?:'\w+ )?(mut\b)?)?", self.function.parameters)
+        given += [("self", *way) for way in re.findall(r"\(\s*(&(?:'\w+ )?(mut\b)?)?\s*(?:mut )?self\b", self.function.parameters)]
         self.given = {name for name, reference, _ in given if not reference}
         self.given |= set(re.findall(r"const (\w+):", self.function.generics))
         self.referred = {name for name, reference, _ in given if reference}

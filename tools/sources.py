@@ -7,7 +7,10 @@ import re
 
 os.chdir(os.path.join(os.path.dirname(os.path.abspath(__file__)), ".."))
 
-HEAD = re.compile(r'^(pub(?:\(crate\))? )?(?:extern "C" )?fn (\w+)', re.M)
+# a function, or indented in an impl a method
+HEAD = re.compile(r'^(?: {4})?(pub(?:\(crate\))? )?(?:extern "C" )?fn (\w+)', re.M)
+# an impl, by the type that it is of
+IMPL = re.compile(r"^impl\b[^{;]*?(\w+)(?:<[^{]*>)? \{", re.M)
 
 
 def blanked(text):
@@ -53,7 +56,7 @@ def uses(text):
 
 def above(text, at):
     """The comment lines directly above the line at `at`, past its attributes."""
-    lines = text[:at].split("\n")[:-1]
+    lines = [line.strip() for line in text[:at].split("\n")[:-1]]
     while lines and lines[-1].startswith("#["):
         lines.pop()
     comment = []
@@ -63,13 +66,16 @@ def above(text, at):
 
 
 class Function:
-    """A function: its `path` (crate::module::name), `file`, `public`, `comment` lines, `generics`, `parameters`, `contract` and `body`."""
+    """A function or method: its `path` (crate::module::name, or crate::module::Type::name), `file`, `public`, `comment` lines,
+    `generics`, `parameters`, `contract` and `body`."""
 
     def __init__(self, file, text, code, head):
         self.file, self.name = file, head.group(2)
         self.crate = file.split("/")[1]
         modules = re.sub(r"\.rt$", "", file.split("/src/", 1)[1]).split("/")
         self.modules = [m for m in modules if m not in ("lib", "main", "mod")]
+        if head.group(0).startswith(" "):
+            self.modules.append([impl.group(1) for impl in IMPL.finditer(code, 0, head.start())][-1])
         self.path = "::".join([self.crate, *self.modules, self.name])
         self.public = head.group(1) == "pub "
         self.comment = above(text, head.start())
