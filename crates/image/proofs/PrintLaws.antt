@@ -12,7 +12,7 @@ use Rattle.manual.specs.declared.Reply.{Reply}
 use Rattle.manual.specs.Reply.{number_of}
 use Rattle.manual.specs.Image.{Printed, digit, hex, decimal, longs, space, newline, answer_line, steps_line, pc_line, sr_line, data_line, address_line, other_line, macsr_line, run_text, printed, text_of}
 use Rattle.image.specs.declared.Text.{Text}
-use Rattle.image.specs.Texts.{put, appended}
+use Rattle.image.specs.Texts.{none, put, appended}
 
 -- ---- part by part
 
@@ -178,7 +178,6 @@ pub more_shown : (t u : Text) (xs ys : List ℕ) → printed t.bytes t.len ≡ t
 more_shown t u xs ys before e h =
     rw (e, shows t xs before, appended-filled xs ys (omega (arith, length-append xs ys))) (shown (xs ++ ys))
 
--- nothing is put into zeros
-pub none_shown : printed (replicate 256 0) 0 ≡ text_of []
-unfolding text_of
+pub none_shown : printed none.bytes none.len ≡ text_of []
+unfolding none text_of
 none_shown = refl
