@@ -1,9 +1,10 @@
 // The calls on the accumulators and MACSR, refusals first.
 #![tactic(auto)]
 
-ghost use Rattle.std.specs.Prelude.{◌≡◌};
+ghost use Rattle.std.specs.Prelude.{◌≡◌, ℕ};
+ghost use Rattle.manual.specs.declared.Emac.{Emac};
 ghost use Rattle.manual.specs.EmacCalls.{acc_told as acc_told_of, done_with, acc_changed as acc_changed_of, acc_get_call, acc_set_call, acc_phys_call, set_acc_phys_call, set_macsr_call};
-ghost use Rattle.calls_emac.specs.Refused.{refusal as refusal_of};
+ghost use Rattle.calls_emac.specs.Refused.{on_acc as on_acc_of, Gives};
 
 use emac::accumulators;
 use emac::accumulators::{acc_of, acc_part, ext_part, pattern_of, with_acc};
@@ -15,29 +16,31 @@ use word::registers::with_emac;
 
 const ACCUMULATORS: u32 = 4;
 
-// Why a call on accumulator i is refused, if it is.
-fn refusal(cpu: Cpu, i: u32) -> Option<Reply>
-    ensures { result ≡ refusal_of cpu i }
+// What the work on accumulator i gives, or why the call is refused; a refused call does no work.
+fn on_acc<T, F: FnOnce() -> T>(cpu: Cpu, i: u32, work: F) -> Result<T, Reply>
+    requires { F.IsAlwaysCallable work }
+    ensures { (x : T) → Gives (F.post work) x → result ≡ on_acc_of cpu i x }
 {
     if !admitted(cpu) {
-        Some(Reply::NotAdmitted)
-    } else if ACCUMULATORS <= i {
-        Some(Reply::OutOfRange)
-    } else {
-        None
+        return Err(Reply::NotAdmitted);
     }
+    if ACCUMULATORS <= i {
+        return Err(Reply::OutOfRange);
+    }
+    Ok(work())
 }
 
 // A number of accumulator i, or 0 in a refusal.
-fn acc_told(cpu: Cpu, i: u32, value: u64) -> Told
-    ensures { result ≡ acc_told_of cpu i value }
+fn acc_told<F: FnOnce() -> u64>(cpu: Cpu, i: u32, value: F) -> Told
+    requires { F.IsAlwaysCallable value }
+    ensures { (v : ℕ) → Gives (F.post value) v → result ≡ acc_told_of cpu i v }
 {
-    match refusal(cpu, i) {
-        None => Told {
+    match on_acc(cpu, i, value) {
+        Ok(value) => Told {
             reply: Reply::Done,
             value,
         },
-        Some(reply) => Told { reply, value: 0 },
+        Err(reply) => Told { reply, value: 0 },
     }
 }
 
@@ -51,12 +54,13 @@ fn done_with(cpu: Cpu, e: Emac) -> Answer
 }
 
 // The state after a change of accumulator i, or as it was in a refusal.
-fn acc_changed(cpu: Cpu, i: u32, e: Emac) -> Answer
-    ensures { result ≡ acc_changed_of cpu i e }
+fn acc_changed<F: FnOnce() -> Emac>(cpu: Cpu, i: u32, next: F) -> Answer
+    requires { F.IsAlwaysCallable next }
+    ensures { (e : Emac) → Gives (F.post next) e → result ≡ acc_changed_of cpu i e }
 {
-    match refusal(cpu, i) {
-        None => done_with(cpu, e),
-        Some(reply) => Answer { reply, cpu },
+    match on_acc(cpu, i, next) {
+        Ok(e) => done_with(cpu, e),
+        Err(reply) => Answer { reply, cpu },
     }
 }
 
@@ -66,7 +70,7 @@ pub fn acc_get(cpu: Cpu, i: u32) -> Told
     ensures { result ≡ acc_get_call cpu i }
 {
     let e = cpu.emac;
-    acc_told(cpu, i, block_number(mode_of(e.macsr), acc_of(e, i)))
+    acc_told(cpu, i, || block_number(mode_of(e.macsr), acc_of(e, i)))
 }
 
 // The state with an accumulator set to a number; refused with 2, or 6 above number 3.
@@ -75,7 +79,7 @@ pub fn acc_set(cpu: Cpu, i: u32, v: u64) -> Answer
     ensures { result ≡ acc_set_call cpu i v }
 {
     let e = cpu.emac;
-    acc_changed(cpu, i, with_acc(e, i, e.macsr, v % 0x1_0000_0000_0000))
+    acc_changed(cpu, i, || with_acc(e, i, e.macsr, v % 0x1_0000_0000_0000))
 }
 
 // ACCn and ACCextn as the physical registers; refused with 2, or 6 above number 3.
@@ -84,11 +88,13 @@ pub fn acc_phys(cpu: Cpu, i: u32) -> Told
     ensures { result ≡ acc_phys_call cpu i }
 {
     let e = cpu.emac;
-    let fi = fractional(e.macsr);
-    let a = acc_of(e, i);
-    let low = acc_part(fi, a) as u64;
-    let high = ext_part(fi, a) as u64;
-    acc_told(cpu, i, low + 0x1_0000_0000 * high)
+    acc_told(cpu, i, || {
+        let fi = fractional(e.macsr);
+        let a = acc_of(e, i);
+        let low = acc_part(fi, a) as u64;
+        let high = ext_part(fi, a) as u64;
+        low + 0x1_0000_0000 * high
+    })
 }
 
 // The state with the physical registers ACCn and ACCextn set; refused with 2, or 6 above number 3.
@@ -97,8 +103,10 @@ pub fn set_acc_phys(cpu: Cpu, i: u32, acc: u32, ext: u16) -> Answer
     ensures { result ≡ set_acc_phys_call cpu i acc ext }
 {
     let e = cpu.emac;
-    let a = pattern_of(fractional(e.macsr), acc, ext as u32);
-    acc_changed(cpu, i, with_acc(e, i, e.macsr, a))
+    acc_changed(cpu, i, || {
+        let a = pattern_of(fractional(e.macsr), acc, ext as u32);
+        with_acc(e, i, e.macsr, a)
+    })
 }
 
 // The state with MACSR written; refused with 2.
