@@ -6,28 +6,28 @@ use Rattle.srecord.specs.declared.TextReply.{TextReply}
 use Rattle.srecord.specs.declared.TextReply.TheVariants as replies
 use Rattle.srecord.specs.Records.{bytes_of, is_hex, unhexed}
 use Rattle.srecord.specs.Reading.{Said, Data, End, Skipped, Malformed, WrongSum, meaning}
-use Rattle.srecord_line.specs.declared.Found.{Found}
-use Rattle.srecord_line.specs.declared.Found.TheVariants as found
 use Rattle.srecord_line.specs.declared.Record.{Record}
 use Rattle.srecord_line.specs.declared.Record.TheVariants as records
+use Rattle.srecord_line.specs.declared.Counted.{Counted}
+use Rattle.srecord_line.specs.declared.Counted.TheVariants as counts
 use Rattle.srecord_line.specs.declared.LineError.{LineError}
 use Rattle.srecord_line.specs.declared.LineError.TheVariants as errors
 
 -- what a line says, with its bytes, or what is wrong with it
-abbrev pub found_of : Said → Result Found LineError
-found_of (Data a bs) = Ok (found.Data a bs)
-found_of (End a) = Ok (found.End a)
-found_of Skipped = Ok found.Skipped
-found_of Malformed = Err errors.Malformed
-found_of WrongSum = Err errors.WrongSum
-
--- the same with the count of its bytes in their place
 abbrev pub record_of : Said → Result Record LineError
-record_of (Data a bs) = Ok (records.Data a (length bs))
+record_of (Data a bs) = Ok (records.Data a bs)
 record_of (End a) = Ok (records.End a)
 record_of Skipped = Ok records.Skipped
 record_of Malformed = Err errors.Malformed
 record_of WrongSum = Err errors.WrongSum
+
+-- the same with the count of its bytes in their place
+abbrev pub counted_of : Said → Result Counted LineError
+counted_of (Data a bs) = Ok (counts.Data a (length bs))
+counted_of (End a) = Ok (counts.End a)
+counted_of Skipped = Ok counts.Skipped
+counted_of Malformed = Err errors.Malformed
+counted_of WrongSum = Err errors.WrongSum
 
 -- the reply to a text with a wrong line
 abbrev pub reply_of : LineError → TextReply

@@ -4,21 +4,23 @@
 pub mod hex;
 pub mod line;
 pub mod replies;
+#[cfg(test)]
+mod tests;
 
 use hex::HexBytes;
 
-// What a line is to its reader: data by its address and the count of its bytes, the end by the start address, or nothing that counts.
-#[derive(Clone, Copy)]
-pub enum Record {
-    Data(u32, usize),
+// What a line is to its reader: data by its address and its bytes, the end by the start address, or nothing that counts.
+#[derive(Drop)]
+pub enum Record<'a> {
+    Data(u32, HexBytes<'a>),
     End(u32),
     Skipped,
 }
 
-// The same with the bytes themselves. `HexBytes` cannot be copied, and lies in the line; a `Record` is free of both.
-#[derive(Drop)]
-enum Found<'a> {
-    Data(u32, HexBytes<'a>),
+// The same with the count of the bytes in their place. `HexBytes` cannot be copied, and lies in the line; a `Counted` is free of both.
+#[derive(Clone, Copy)]
+pub enum Counted {
+    Data(u32, usize),
     End(u32),
     Skipped,
 }

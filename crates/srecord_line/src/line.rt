@@ -2,10 +2,10 @@
 ghost use Rattle.std.specs.Prelude.{◌≡◌, Some};
 ghost use Rattle.srecord.specs.Records.{kind_of, unhexed};
 ghost use Rattle.srecord.specs.Reading.{said as said_of, stored};
-ghost use Rattle.srecord_line.specs.Lines.{found_of, record_of, fits_by, in_hex, is_formed};
+ghost use Rattle.srecord_line.specs.Lines.{record_of, counted_of, fits_by, in_hex, is_formed};
 
 use super::hex::{HexBytes, scan};
-use super::{Found, LineError, Record};
+use super::{Counted, LineError, Record};
 use srecord::{Kind, Width};
 
 #[tactic(auto, unfolding(srecord::specs::Records::kind_of))]
@@ -37,8 +37,8 @@ fn is_formed(kind: Kind, bytes: &HexBytes) -> bool
 }
 
 // What the record of a kind is, by its digits.
-fn record(kind: Kind, digits: &[u8]) -> Result<Found<'_>, LineError>
-    ensures { result ≡ found_of (in_hex kind digits.now) }
+fn record(kind: Kind, digits: &[u8]) -> Result<Record<'_>, LineError>
+    ensures { result ≡ record_of (in_hex kind digits.now) }
 {
     let Some((bytes, sum)) = scan(digits) else {
         return Err(LineError::Malformed);
@@ -50,15 +50,15 @@ fn record(kind: Kind, digits: &[u8]) -> Result<Found<'_>, LineError>
         return Err(LineError::WrongSum);
     }
     match kind {
-        Kind::Data(w) => Ok(Found::Data(bytes.address(w), bytes.payload(w))),
-        Kind::End(w) => Ok(Found::End(bytes.address(w))),
-        Kind::Skipped(_) => Ok(Found::Skipped),
+        Kind::Data(w) => Ok(Record::Data(bytes.address(w), bytes.payload(w))),
+        Kind::End(w) => Ok(Record::End(bytes.address(w))),
+        Kind::Skipped(_) => Ok(Record::Skipped),
     }
 }
 
 // What record a line is, with its bytes, or what is wrong with it.
-fn found(line: &[u8]) -> Result<Found<'_>, LineError>
-    ensures { result ≡ found_of (said_of line.now) }
+pub fn said(line: &[u8]) -> Result<Record<'_>, LineError>
+    ensures { result ≡ record_of (said_of line.now) }
 {
     let [b'S', digit, digits @ ..] = line else {
         return Err(LineError::Malformed);
@@ -68,13 +68,13 @@ fn found(line: &[u8]) -> Result<Found<'_>, LineError>
 }
 
 // What record a line is, with the count of its bytes, or what is wrong with it.
-pub fn said(line: &[u8]) -> Result<Record, LineError>
-    ensures { result ≡ record_of (said_of line.now) }
+pub fn counted(line: &[u8]) -> Result<Counted, LineError>
+    ensures { result ≡ counted_of (said_of line.now) }
 {
-    Ok(match found(line)? {
-        Found::Data(a, bytes) => Record::Data(a, bytes.len()),
-        Found::End(a) => Record::End(a),
-        Found::Skipped => Record::Skipped,
+    Ok(match said(line)? {
+        Record::Data(a, bytes) => Counted::Data(a, bytes.len()),
+        Record::End(a) => Counted::End(a),
+        Record::Skipped => Counted::Skipped,
     })
 }
 
@@ -89,7 +89,7 @@ pub fn inside(size: usize, a: u32, n: usize) -> bool
 pub fn store_line(line: &[u8], mem: &mut [u8])
     ensures { mem.new ≡ stored (said_of line.now) mem.old }
 {
-    let Ok(Found::Data(a, bytes)) = found(line) else {
+    let Ok(Record::Data(a, bytes)) = said(line) else {
         return;
     };
     if inside(mem.len(), a, bytes.len()) {

@@ -16,8 +16,10 @@ use Rattle.srecord.specs.Records.{lf, cr}
 use Rattle.srecord.specs.Reading.{Said, Data, End, Skipped, Malformed, WrongSum, said, bare, fits, lines, ended, is_empty, all_empty, read_refused, end_of, on_line, verdict, stored, placed, text_done, reading, answer_to, read_text}
 use Rattle.srecord_line.specs.declared.Record.{Record}
 use Rattle.srecord_line.specs.declared.Record.TheVariants as records
+use Rattle.srecord_line.specs.declared.Counted.{Counted}
+use Rattle.srecord_line.specs.declared.Counted.TheVariants as counts
 use Rattle.srecord_line.specs.declared.LineError.{LineError}
-use Rattle.srecord_line.specs.Lines.{record_of, reply_of, fits_by}
+use Rattle.srecord_line.specs.Lines.{record_of, counted_of, reply_of, fits_by}
 use Rattle.srecord_line.specs.RangeLaws.{fits_length}
 use Rattle.srecord_read.specs.LineEndLaws.{NoLf, lines-line, ended-line, lines_none, ended-none, placed_cons}
 use Rattle.srecord_read.specs.Texts.{Splits, clear_from, judged, answer_of}
@@ -134,7 +136,7 @@ clear_end (x ∷ t) g = rw (lines_none (x ∷ t) g, ended-none x t g, ne_eqb (le
 -- ---- what a line brings, by its record
 
 abbrev pub record_judged : ℕ → Result Record LineError → Result (Option ℕ) TextReply
-record_judged n (Ok (records.Data a count)) = cond (fits_by n a count) (Ok None) (Err replies.NotInside)
+record_judged n (Ok (records.Data a bs)) = cond (fits_by n a (length bs)) (Ok None) (Err replies.NotInside)
 record_judged n (Ok (records.End a)) = Ok (Some a)
 record_judged n (Ok records.Skipped) = Ok None
 record_judged n (Err e) = Err (reply_of e)
@@ -150,12 +152,38 @@ by_record n r s e = ap (record_judged n) e ∙ go s
     go Malformed = refl
     go WrongSum = refl
 
-module _ (n a count : ℕ) (s : Said) (e : Ok (records.Data a count) ≡ record_of s) where
-  pub by_inside : fits_by n a count ≡ true → Ok None ≡ judged n s
-  by_inside f = rw f at (by_record n (Ok (records.Data a count)) s e)
+module _ (n a : ℕ) (bs : List ℕ) (s : Said) (e : Ok (records.Data a bs) ≡ record_of s) where
+  pub by_inside : fits_by n a (length bs) ≡ true → Ok None ≡ judged n s
+  by_inside f = rw f at (by_record n (Ok (records.Data a bs)) s e)
 
-  pub by_outside : fits_by n a count ≡ false → Err replies.NotInside ≡ judged n s
-  by_outside f = rw f at (by_record n (Ok (records.Data a count)) s e)
+  pub by_outside : fits_by n a (length bs) ≡ false → Err replies.NotInside ≡ judged n s
+  by_outside f = rw f at (by_record n (Ok (records.Data a bs)) s e)
+
+-- ---- and by the count of its bytes
+
+abbrev pub counted_judged : ℕ → Result Counted LineError → Result (Option ℕ) TextReply
+counted_judged n (Ok (counts.Data a count)) = cond (fits_by n a count) (Ok None) (Err replies.NotInside)
+counted_judged n (Ok (counts.End a)) = Ok (Some a)
+counted_judged n (Ok counts.Skipped) = Ok None
+counted_judged n (Err e) = Err (reply_of e)
+
+pub by_counted : (n : ℕ) (r : Result Counted LineError) (s : Said) → r ≡ counted_of s → counted_judged n r ≡ judged n s
+unfolding judged
+by_counted n r s e = ap (counted_judged n) e ∙ go s
+  where
+    go : (s : Said) → counted_judged n (counted_of s) ≡ judged n s
+    go (Data a bs) = rw fits_length
+    go (End a) = refl
+    go Skipped = refl
+    go Malformed = refl
+    go WrongSum = refl
+
+module _ (n a count : ℕ) (s : Said) (e : Ok (counts.Data a count) ≡ counted_of s) where
+  pub by_count_inside : fits_by n a count ≡ true → Ok None ≡ judged n s
+  by_count_inside f = rw f at (by_counted n (Ok (counts.Data a count)) s e)
+
+  pub by_count_outside : fits_by n a count ≡ false → Err replies.NotInside ≡ judged n s
+  by_count_outside f = rw f at (by_counted n (Ok (counts.Data a count)) s e)
 
 -- ---- and for the text
 

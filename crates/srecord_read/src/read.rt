@@ -6,24 +6,24 @@ ghost use Rattle.srecord_read.specs.Texts.{judged, answer_of, IsRefusal};
 
 use super::text::{bare, clear, next_line};
 use srecord::{ReadAnswer, TextReply};
-use srecord_line::Record;
-use srecord_line::line::{inside, said, store_line};
+use srecord_line::Counted;
+use srecord_line::line::{counted, inside, store_line};
 use srecord_line::replies::text_number;
 
 // What a line brings: the start address where it is an end, none where the text goes on.
 fn judge(line: &[u8], size: usize) -> Result<Option<u32>, TextReply>
     ensures { result ≡ judged size (said_of line.now) }
 {
-    match said(line)? {
-        Record::Data(a, n) => {
+    match counted(line)? {
+        Counted::Data(a, n) => {
             if inside(size, a, n) {
                 Ok(None)
             } else {
                 Err(TextReply::NotInside)
             }
         }
-        Record::End(start) => Ok(Some(start)),
-        Record::Skipped => Ok(None),
+        Counted::End(start) => Ok(Some(start)),
+        Counted::Skipped => Ok(None),
     }
 }
 

@@ -15,7 +15,7 @@ returns-else-inside c =
     stored_outside (said_of c.args.line.now) c.args.mem.now b.a b.bytes (rw b.field-0-is at b.ensures) (rw c.len.ensures at (sym c.if-inside.ensures))
 
 pub returns-in_default : goal.returns-in_default
-returns-in_default c = stored_none (said_of c.args.line.now) c.args.mem.now c.found.result c.found.ensures (search rules)
+returns-in_default c = stored_none (said_of c.args.line.now) c.args.mem.now c.said.result c.said.ensures (search rules)
 
 pub returns-in_default-2 : goal.returns-in_default-2
-returns-in_default-2 c = stored_none (said_of c.args.line.now) c.args.mem.now c.found.result c.found.ensures (search rules)
+returns-in_default-2 c = stored_none (said_of c.args.line.now) c.args.mem.now c.said.result c.said.ensures (search rules)

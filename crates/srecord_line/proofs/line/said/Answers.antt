@@ -1,9 +1,9 @@
 use Rattle.std.proofs.Common.{arith, rules, ltb-true, ltb-false, ap, ◌∙◌, sym}
 use Rattle.std.proofs.lemmas.Result.{err_from_is_err_and}
-use Rattle.srecord_line.specs.Lines.{found_of}
+use Rattle.srecord_line.specs.Lines.{record_of}
 use Rattle.srecord_line.proofs.LineLaws.{said_short, said_other, said_unknown, said_record, unknown_error, rest_of}
-use Rattle.srecord_line.proofs.line.found.Goals as goal
-use Rattle.srecord_line.proofs.line.found.Goals.{in_default-via-then-line-lt2, in_default-via-else-line-lt2+in_default-1}
+use Rattle.srecord_line.proofs.line.said.Goals as goal
+use Rattle.srecord_line.proofs.line.said.Goals.{in_default-via-then-line-lt2, in_default-via-else-line-lt2+in_default-1}
 
 pub returns-in_default : goal.returns-in_default
 returns-in_default c =
@@ -22,4 +22,4 @@ returns-in_err-kind c =
 pub returns : goal.returns
 returns c =
     let l = c.args.line.now in
-    c.record.ensures ∙ ap found_of (rw (rest_of l) (said_record c.in_ok-kind.kind l c.in-83.len_at_least (search rules) (sym c.kind_of.ensures ∙ c.in_ok-kind.ensures.ok_part)))
+    c.record.ensures ∙ ap record_of (rw (rest_of l) (said_record c.in_ok-kind.kind l c.in-83.len_at_least (search rules) (sym c.kind_of.ensures ∙ c.in_ok-kind.ensures.ok_part)))
