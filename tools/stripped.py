@@ -4,7 +4,8 @@ The theorems of `demands` speak of the definition alone, so the functions are ta
 With them a wrong definition would be refused below, where a function is proved to equal it, and no theorem would be reached.
 
 Left of a .rt file, in the layout of `rt fmt`, are its types with what contracts see of them (`impl Model`), constants and modules, and of
-its imports what these name. Functions, other impls, traits, macros and modules of tests go, and so does the crate's folder proofs/.
+its imports what these name. Functions, other impls, traits, macros and modules of tests inside the file go, and so does the crate's folder
+proofs/. A module of tests that is a file of its own is such a file: its constants are left.
 """
 import glob
 import os
